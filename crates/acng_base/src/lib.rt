@@ -29,3 +29,6 @@ pub use stdio::{StdLink, StdSink, StdSource};
 pub use stream::{MemorySink, MemorySource, Sink, Source};
 pub use tag::Tag;
 pub use text::{Text, Texts};
+
+#[cfg(test)]
+mod tests;

@@ -1,0 +1,188 @@
+//! What no clause says: that the calls succeed with ample memory, and values from outside.
+use crate::{
+    CachePath, Clock, Failed, FixedClock, Found, HostClock, Link, Mark, MemoryLink, MemorySink,
+    MemorySource, Moment, NoMemory, PathFault, Sink, Source, StdLink, StdSink, StdSource, Tag,
+    Text, Texts, scan, send_all, send_counted,
+};
+use std::alloc::Global;
+use std::test::Fail;
+
+#[test]
+fn a_path_names_one_file(rt: HostRuntime) -> Result<(), Fail> {
+    let long = vec![in rt.alloc(); b'a'; 1025]?;
+    assert_eq!(rt; CachePath::refusal(&long[..1024]), None);
+    assert_eq!(rt;
+        CachePath::refusal(&long),
+        Some(PathFault::TooLong { len: 1025 })
+    );
+    for (text, refusal) in [
+        (b"debrep/pool/a_1.deb".as_slice(), None),
+        (b"a".as_slice(), None),
+        (b"...".as_slice(), None),
+        (b"a/.b/c..".as_slice(), None),
+        (b"".as_slice(), Some(PathFault::Empty)),
+        (b"a b".as_slice(), Some(PathFault::BadByte { at: 1 })),
+        (b"a/../\x7f".as_slice(), Some(PathFault::BadByte { at: 5 })),
+        (
+            b"debian/../etc".as_slice(),
+            Some(PathFault::BadSegment { at: 7 }),
+        ),
+        (b"/a".as_slice(), Some(PathFault::BadSegment { at: 0 })),
+        (b"a//b".as_slice(), Some(PathFault::BadSegment { at: 2 })),
+        (b"a/.".as_slice(), Some(PathFault::BadSegment { at: 2 })),
+        (b"a/".as_slice(), Some(PathFault::BadSegment { at: 2 })),
+    ] {
+        assert_eq!(rt; CachePath::refusal(text), refusal);
+        match CachePath::read(rt.alloc(), text) {
+            Ok(path) => assert!(rt;
+                path.again(rt.alloc()).map_err(|_| "memory")?.as_bytes() == text
+            ),
+            Err(fault) => assert_eq!(rt; Some(fault), refusal),
+        }
+    }
+    Ok(())
+}
+
+#[test]
+fn a_strong_tag_is_read_and_a_weak_one_is_not(rt: HostRuntime) -> Result<(), Fail> {
+    let mut long = vec![in rt.alloc(); b'a'; 257]?;
+    long[0] = b'"';
+    long[255] = b'"';
+    long[256] = b'"';
+    for (text, strong) in [
+        (b"\"\"".as_slice(), true),
+        (b"\"x\"".as_slice(), true),
+        (b"\"!#~\"".as_slice(), true),
+        (&long[..256], true),
+        (&long[..], false),
+        (b"\"".as_slice(), false),
+        (b"".as_slice(), false),
+        (b"W/\"x\"".as_slice(), false),
+        (b"\"x".as_slice(), false),
+        (b"x\"".as_slice(), false),
+        (b"\"a\"b\"".as_slice(), false),
+        (b"\"a b\"".as_slice(), false),
+        (b"\"\x7f\"".as_slice(), false),
+    ] {
+        match Tag::read(text) {
+            Some(tag) => assert!(rt; strong && tag.again().as_bytes() == text),
+            None => assert!(rt; !strong),
+        }
+    }
+    Ok(())
+}
+
+// Whether `abcde` goes out over a link of this room, cut and failing call, how much of it, and after how many faults.
+fn sent(alloc: Global, room: usize, cut: usize, fail: u64) -> Result<(bool, usize, u64), NoMemory> {
+    let mut link = MemoryLink::new(alloc, b"", room, cut.max(1), &[fail])?;
+    let whole = send_all(&mut link, b"abcde").is_ok();
+    let front = b"abcde".starts_with(link.written());
+    Ok((whole && front, link.written().len(), link.faults()))
+}
+
+#[test]
+fn a_piece_goes_out_whole_or_a_front_of_it(rt: HostRuntime) -> Result<(), Fail> {
+    for (room, cut, fail, whole, count) in [
+        (9, 9, 9, true, 5),
+        (5, 1, 9, true, 5),
+        (4, 9, 9, false, 4),
+        (0, 9, 9, false, 0),
+        (9, 9, 0, false, 0),
+        (9, 2, 1, false, 2),
+        (9, 2, 2, false, 4),
+    ] {
+        let outcome = sent(rt.alloc(), room, cut, fail).map_err(|_| "memory")?;
+        assert_eq!(rt; outcome, (whole, count, u64::from(!whole)));
+    }
+    let mut link = MemoryLink::new(rt.alloc(), b"", 3, 2, &[]).map_err(|_| "memory")?;
+    assert_eq!(rt; send_counted(&mut link, b"abcde"), (3, Err(Failed)));
+    Ok(())
+}
+
+#[test]
+fn a_read_is_cut_and_ends(rt: HostRuntime) -> Result<(), Fail> {
+    let mut buf = [0; 4];
+    let mut link = MemoryLink::new(rt.alloc(), b"abcdef", 0, 3, &[1]).map_err(|_| "memory")?;
+    assert_eq!(rt; link.read(&mut buf), Ok(3));
+    assert!(rt; buf.starts_with(b"abc"));
+    assert_eq!(rt; link.read(&mut buf), Err(Failed));
+    assert_eq!(rt; link.read(&mut buf[..2]), Ok(2));
+    assert!(rt; buf.starts_with(b"de"));
+    assert_eq!(rt; link.read(&mut buf), Ok(1));
+    assert_eq!(rt; link.read(&mut buf), Ok(0));
+    let mut source = MemorySource::new(rt.alloc(), b"ab", 1, &[0]).map_err(|_| "memory")?;
+    assert_eq!(rt; source.read(&mut buf), Err(Failed));
+    assert_eq!(rt; source.read(&mut buf), Ok(1));
+    let mut sink = MemorySink::new(rt.alloc(), 2, 9, &[]).map_err(|_| "memory")?;
+    assert_eq!(rt; sink.write(b"abc"), Ok(2));
+    assert!(rt; sink.written() == b"ab".as_slice());
+    Ok(())
+}
+
+#[test]
+fn the_last_moment_repeats(rt: HostRuntime) -> Result<(), Fail> {
+    let mut clock = FixedClock::new(rt.alloc(), &[5, 3]).map_err(|_| "memory")?;
+    for moment in [5, 3, 3] {
+        assert_eq!(rt; clock.now(), Moment(moment));
+    }
+    // 2020-01-01: the system's clock is set.
+    assert!(rt; Moment(1_577_836_800) < HostClock::new(rt).now());
+    Ok(())
+}
+
+// Where the block ends when its text comes in pieces of a length.
+fn block_end(text: &[u8], cut: usize) -> Option<usize> {
+    let mut mark = Mark::Before;
+    let mut before = 0usize;
+    for piece in text.chunks(cut.max(1)) {
+        match scan(mark, piece) {
+            Found::Ends(count) => return Some(before.saturating_add(count)),
+            Found::GoesOn(next) => mark = next,
+        }
+        before = before.saturating_add(piece.len());
+    }
+    None
+}
+
+#[test]
+fn a_block_ends_at_its_first_empty_line_in_any_cutting(rt: HostRuntime) {
+    for (text, end) in [
+        (b"GET / HTTP/1.1\r\n\r\nrest".as_slice(), Some(18)),
+        (b"a\n\nrest".as_slice(), Some(3)),
+        (b"\r\n\na\r\nb\n\r\n".as_slice(), Some(10)),
+        (b"a\r\r\n\r\n".as_slice(), Some(6)),
+        (b"a\n\ra\n\n".as_slice(), Some(6)),
+        (b"\n\r\n\n".as_slice(), None),
+        (b"a\r\n\r".as_slice(), None),
+        (b"".as_slice(), None),
+    ] {
+        for cut in [1, 2, 4096] {
+            assert_eq!(rt; block_end(text, cut), end, "cut {cut}");
+        }
+    }
+}
+
+#[test]
+fn texts_keep_their_order(rt: HostRuntime) -> Result<(), Fail> {
+    let mut texts = Texts::new(rt.alloc());
+    assert!(rt; texts.is_empty());
+    texts.push(rt.alloc(), b"b").map_err(|_| "memory")?;
+    texts.push(rt.alloc(), b"").map_err(|_| "memory")?;
+    assert_eq!(rt; texts.len(), 2);
+    assert!(rt; texts.get(0) == b"b".as_slice() && texts.get(1).is_empty());
+    let text = Text::copy(rt.alloc(), b"abc").map_err(|_| "memory")?;
+    assert!(rt; text.as_bytes() == b"abc".as_slice());
+    Ok(())
+}
+
+#[test]
+fn the_adapters_pass_the_bytes_on(rt: HostRuntime) -> Result<(), Fail> {
+    let mut buf = [0; 4];
+    let mut link = StdLink::new(b"ab".as_slice(), Vec::new(rt.alloc()));
+    assert_eq!(rt; link.read(&mut buf), Ok(2));
+    assert_eq!(rt; link.read(&mut buf), Ok(0));
+    assert_eq!(rt; link.write(b"abc"), Ok(3));
+    assert_eq!(rt; StdSource::new(b"ab".as_slice()).read(&mut buf), Ok(2));
+    assert_eq!(rt; StdSink::new(Vec::new(rt.alloc())).write(b"abc"), Ok(3));
+    Ok(())
+}
