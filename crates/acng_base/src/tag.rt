@@ -2,7 +2,7 @@
 //!
 //! A `Tag` has 2 to 256 bytes: a quote, bytes 0x21 or 0x23 to 0x7E, and a quote. A weak tag is never read, since it
 //! doesn't promise the same bytes. The bytes are kept in place, so a tag is copied without memory.
-ghost use Rattle.std.specs.Prelude.{◌≡◌, ◌≤◌, List, ℕ, take, length, is_some, IfSome};
+ghost use Rattle.std.specs.Prelude.{◌≡◌, ◌≤◌, true, List, ℕ, take, length, is_some, IfSome};
 ghost use Rattle.std.specs.List.{list_all};
 ghost use Rattle.acng_base.specs.Tags.{is_tag, is_tag_byte};
 
@@ -20,7 +20,7 @@ impl Model for Tag {
 
     ghost view = { λ t. take t.len t.bytes };
 
-    ghost invariant = { λ t. t.len ≤ 256 };
+    ghost invariant = { λ t. (t.len ≤ 256) × (is_tag (take t.len t.bytes) ≡ true) };
 }
 
 impl Tag {
@@ -54,7 +54,8 @@ impl Tag {
     }
 
     pub fn as_bytes(&self) -> &[u8]
-        ensures { result.now ≡ self.now }
+        ensures bytes { result.now ≡ self.now }
+        ensures strong { is_tag self.now ≡ true }
     {
         &self.bytes[..self.len]
     }
