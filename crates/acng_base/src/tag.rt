@@ -56,6 +56,7 @@ impl Tag {
     pub fn as_bytes(&self) -> &[u8]
         ensures bytes { result.now ≡ self.now }
         ensures strong { is_tag self.now ≡ true }
+        ensures short { length self.now ≤ 256 }
     {
         &self.bytes[..self.len]
     }
