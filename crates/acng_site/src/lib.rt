@@ -8,6 +8,7 @@
 pub mod ask;
 pub mod memory;
 pub mod origin;
+pub mod request;
 pub mod rule;
 pub mod site;
 
@@ -15,5 +16,6 @@ pub use acng_base::Tag;
 pub use ask::Ask;
 pub use memory::{Gate, MemoryConn, MemoryOrigin, MemorySlip, NoGate};
 pub use origin::{Conn, Dial, Origin, OriginSlip};
+pub use request::{UrlFault, ask_text, http_url};
 pub use rule::Rule;
 pub use site::{Right, Site, Try, Untold};
