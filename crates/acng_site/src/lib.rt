@@ -7,6 +7,7 @@
 
 pub mod ask;
 pub mod memory;
+pub mod net;
 pub mod origin;
 pub mod request;
 pub mod rule;
@@ -15,7 +16,8 @@ pub mod site;
 pub use acng_base::Tag;
 pub use ask::Ask;
 pub use memory::{Gate, MemoryConn, MemoryOrigin, MemorySlip, NoGate};
+pub use net::{NetConn, NetOrigin, NetSlip};
 pub use origin::{Conn, Dial, Origin, OriginSlip};
-pub use request::{UrlFault, ask_text, http_url};
+pub use request::{Request, UrlFault};
 pub use rule::Rule;
 pub use site::{Right, Site, Try, Untold};

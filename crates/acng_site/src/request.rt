@@ -23,8 +23,32 @@ pub enum UrlFault {
     NoMemory,
 }
 
-/// Reads the URL of an ask.
-pub fn http_url(alloc: Global, text: &[u8]) -> Result<Url, UrlFault>
+/// A request, and the URL whose host it is sent to.
+#[derive(Drop)]
+pub struct Request {
+    pub url: Url,
+    pub text: Text,
+}
+
+impl Request {
+    /// The request of an ask. A moment to compare with is one that HTTP can write: before the year 10000.
+    pub fn of(alloc: Global, ask: &Ask) -> Result<Request, UrlFault>
+        requires since { IfSome ask.now.since (λ moment. moment.0 < 253402300800) }
+        ensures url { IfOk result (λ request. ReadsAsHttp ask.now.url request.url) }
+        ensures text { IfOk result (λ request. IsRequestOf request.url ask.now request.text) }
+        ensures accepted { (u : Parts) → ReadsAsHttp ask.now.url u → IsOkUnless result UrlFault.NoMemory }
+        ensures not_http { IsErrOf result UrlFault.NotHttp → (u : Parts) → ¬ (ReadsAsHttp ask.now.url u) }
+    {
+        let url = http_url(alloc, ask.url.as_bytes())?;
+        let Ok(text) = ask_text(alloc, &url, ask) else {
+            return Err(UrlFault::NoMemory);
+        };
+        Ok(Request { url, text })
+    }
+}
+
+// Reads the URL of an ask.
+fn http_url(alloc: Global, text: &[u8]) -> Result<Url, UrlFault>
     ensures url { IfOk result (λ url. ReadsAsHttp text.now url) }
     ensures accepted { (u : Parts) → ReadsAsHttp text.now u → IsOkUnless result UrlFault.NoMemory }
     ensures not_http { IsErrOf result UrlFault.NotHttp → (u : Parts) → ¬ (ReadsAsHttp text.now u) }
@@ -39,8 +63,8 @@ pub fn http_url(alloc: Global, text: &[u8]) -> Result<Url, UrlFault>
     }
 }
 
-/// The text that asks for it at the URL.
-pub fn ask_text(alloc: Global, url: &Url, ask: &Ask) -> Result<Text, NoMemory>
+// The text that asks for it at the URL.
+fn ask_text(alloc: Global, url: &Url, ask: &Ask) -> Result<Text, NoMemory>
     requires since { IfSome ask.now.since (λ moment. moment.0 < 253402300800) }
     ensures { IfOk result (λ text. IsRequestOf url.now ask.now text) }
 {
