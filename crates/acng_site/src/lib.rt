@@ -21,3 +21,6 @@ pub use origin::{Conn, Dial, Origin, OriginSlip};
 pub use request::{Request, UrlFault};
 pub use rule::Rule;
 pub use site::{Right, Site, Try, Untold};
+
+#[cfg(test)]
+mod tests;

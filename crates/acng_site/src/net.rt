@@ -52,6 +52,20 @@ pub struct NetConn<T> {
     stream: T,
 }
 
+impl<T> NetConn<T> {
+    // The connection over a stream that the request was written to.
+    pub(crate) fn over(stream: T, number: u64, ask: &Ask) -> NetConn<T>
+        ensures number { result.number ≡ number }
+        ensures ask { result.ask.value ≡ ask.now }
+    {
+        NetConn {
+            number,
+            ask: Snapshot::of(ask),
+            stream,
+        }
+    }
+}
+
 impl<T: Read + Drop> Conn for NetConn<T> {
     type Slip = NetSlip;
 
@@ -116,11 +130,7 @@ impl<N: Net + Drop> Origin<Untold> for NetOrigin<N> {
             Err(UrlFault::NoMemory) => return Dial::NoMemory,
         };
         match send(&self.net, &request) {
-            Ok(stream) => Dial::Up(NetConn {
-                number,
-                ask: Snapshot::of(ask),
-                stream,
-            }),
+            Ok(stream) => Dial::Up(NetConn::over(stream, number, ask)),
             Err(_) => Dial::Fault(slip(number, ask)),
         }
     }
