@@ -1,2 +1,3 @@
+mod HonestRows
 mod Joins
 mod NextBytes

@@ -1,4 +1,4 @@
-ghost use Rattle.std.specs.Prelude.{◌≡◌, ◌<◌, ◌≤◌, ◌^◌, ◌-◌, None, IfOk, IfSome, IfErr};
+ghost use Rattle.std.specs.Prelude.{◌≡◌, ◌&&◌, true, false, [], ◌∷◌, None, IfOk, bytes_eq, codes};
 
 use crate::ask::Ask;
 use crate::memory::{Gate, MemoryOrigin, NoGate};
@@ -6,7 +6,7 @@ use crate::net::{NetConn, NetOrigin};
 use crate::origin::{Conn, Dial, Origin, OriginSlip};
 use crate::request::Request;
 use crate::rule::Rule;
-use crate::site::{Try, Untold};
+use crate::site::{Site, Try, Untold};
 use acng_base::{Moment, NoMemory, Tag, Text};
 use std::alloc::Global;
 use std::io;
@@ -115,6 +115,47 @@ fn the_first_rule_for_the_ask_answers_in_its_attempts(rt: HostRuntime) -> Result
             );
         }
     }
+    Ok(())
+}
+
+// A site that tells: one file of three bytes, in the attempts 0 to 9.
+#[derive(Drop)]
+struct OneFile;
+
+impl Site for OneFile {
+    ghost use Rattle.acng_site.specs.Rules.{first_rule, bytes_of, fault_of};
+
+    ghost tells = { true };
+
+    ghost sent = { λ n a. bytes_of (first_rule (record { url = codes "http://a/f"; from = 0; first = 0; last = 9; bytes = codes "abc"; fault = false } ∷ []) n a) };
+
+    ghost faulted = { λ n a. fault_of (first_rule (record { url = codes "http://a/f"; from = 0; first = 0; last = 9; bytes = codes "abc"; fault = false } ∷ []) n a) };
+
+    ghost serves = { λ url path. bytes_eq url (codes "http://a/f") && bytes_eq path (codes "a/f") };
+
+    ghost instance = { λ _ _. codes "abc" };
+}
+
+#[test]
+fn an_origin_of_a_site_that_tells_starts(rt: HostRuntime) -> Result<(), Fail> {
+    let alloc = rt.alloc();
+    let rules = [Rule {
+        url: Text::copy(alloc, b"http://a/f")?,
+        from: 0,
+        first: 0,
+        last: 9,
+        bytes: Text::copy(alloc, b"abc")?,
+        fault: false,
+    }];
+    let (origin, mut right) = MemoryOrigin::<OneFile, NoGate>::start(alloc, &rules, 2, NoGate)?;
+    let ask = plain_ask(alloc, b"http://a/f", 0)?;
+    let Dial::Up(conn) = origin.dial(alloc, right.draw(), &ask) else {
+        assert!(rt; false, "the dial comes up");
+        return Ok(());
+    };
+    let (bytes, slip) = read_all(alloc, conn)?;
+    assert_eq!(rt; bytes.as_slice(), b"abc".as_slice());
+    assert_eq!(rt; slip, None);
     Ok(())
 }
 
