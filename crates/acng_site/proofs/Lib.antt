@@ -1,0 +1,3 @@
+mod HonestRows
+mod Joins
+mod NextBytes

@@ -1,0 +1,24 @@
+-- What an honest site is, for the answers that are taken so far: those of status 200 with a counted body.
+use Rattle.std.specs.Prelude.{◌≡◌, ℕ, Bool, true, not, List, length, take, Some}
+use Rattle.acng_base.specs.Heads.{Head}
+use Rattle.acng_base.specs.Answers.{Reading, reading, framing, answer_limit}
+use Rattle.acng_base.specs.Answers.Outcome.{Whole}
+use Rattle.acng_base.specs.Answers.Framing.{Counted}
+use Rattle.acng_site.specs.declared.ask.Ask.{Ask}
+
+-- the length that the framing of a head gives is the instance's (RFC 9110, section 8.6)
+abbrev pub HasLength : List ℕ → Head → Type 0
+HasLength instance h = (n : ℕ) → framing h ≡ Some (Counted n) → n ≡ length instance
+
+-- an answer as a mirror gives it that holds this instance of the file: where its final head has status 200 (RFC 9110,
+-- section 15.3.1), its body is a front of the instance, all of it where the answer is whole, and a stated length is the
+-- instance's
+pub record IsHonestAnswer (instance : List ℕ) (r : Reading) : Type 0 where
+  pub front : (h : Head) → r.head ≡ Some h → h.status ≡ 200 → take (length r.body) instance ≡ r.body
+  pub all : (h : Head) → r.head ≡ Some h → h.status ≡ 200 → r.outcome ≡ Whole → r.body ≡ instance
+  pub stated : (h : Head) → r.head ≡ Some h → h.status ≡ 200 → HasLength instance h
+
+-- what the attempts send at the places of a file is the file as the attempt found it. The connection ended where no
+-- fault cut it off.
+pub record IsHonest (sent : ℕ → Ask → List ℕ) (faulted : ℕ → Ask → Bool) (serves : List ℕ → List ℕ → Bool) (instance : ℕ → List ℕ → List ℕ) : Type 0 where
+  pub answers : (n : ℕ) (a : Ask) (p : List ℕ) → serves a.url p ≡ true → IsHonestAnswer (instance n p) (reading (sent n a) (not (faulted n a)) answer_limit)

@@ -1,0 +1,4 @@
+pub mod Dials
+pub mod Honest
+pub mod Requests
+pub mod Rules

@@ -1,0 +1,26 @@
+//! Origins: what is asked of a mirror, the numbered attempts to get it, and what an attempt gives or how it fails.
+//!
+//! A `Site` names what the mirrors hold. Each attempt on it has a number of its own, and with its ask it gives the
+//! bytes that the site sends for both, up to their end or a fault. A fault is a slip: only a call that failed hands one
+//! out, and it names its attempt and its ask.
+#![tactic(auto)]
+
+pub mod ask;
+pub mod memory;
+pub mod net;
+pub mod origin;
+pub mod request;
+pub mod rule;
+pub mod site;
+
+pub use acng_base::Tag;
+pub use ask::Ask;
+pub use memory::{Gate, MemoryConn, MemoryOrigin, MemorySlip, NoGate};
+pub use net::{NetConn, NetOrigin, NetSlip};
+pub use origin::{Conn, Dial, Origin, OriginSlip};
+pub use request::{Request, UrlFault};
+pub use rule::Rule;
+pub use site::{Right, Site, Try, Untold};
+
+#[cfg(test)]
+mod tests;
