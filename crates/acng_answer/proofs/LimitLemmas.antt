@@ -35,24 +35,29 @@ looks left limit used piece more ended h k = cases (leb_tells (length (piece ++ 
   where
     same : nat_le (length (piece ++ more)) left ≡ nat_le (length (drop used piece ++ more)) (left - used)
     same = rw (length-append, length-append, length-drop) (same_le (length piece + length more) left ((length piece - used) + length more) (left - used) (λ p. omega arith) (λ p. omega arith))
+
     cases : ((nat_le (length (piece ++ more)) left ≡ true) × (length (piece ++ more) ≤ left)) ⊎ ((nat_le (length (piece ++ more)) left ≡ false) × (left < length (piece ++ more))) → Looks left limit used piece more ended
     cases (inl t) =
         let size = length-append piece more in
         let short : length piece ≤ left = omega (arith, t.1) in
         let whole : take left piece ≡ piece = take_all left piece short in
         record {
-          all = true; mark = ended; rest = more;
+          all = true;
+          mark = ended;
+          rest = more;
           before = λ f. ap (on_limit left limit f ended (piece ++ more)) t.0 ∙ ap (λ p. f ended (p ++ more)) (sym whole);
           after = λ f. ap (on_limit (left - used) limit f ended (drop used piece ++ more)) (sym same ∙ t.0) ∙ ap (λ p. f ended (drop used p ++ more)) (sym whole);
         }
     cases (inr t) = record {
-          all = false; mark = false; rest = take (left - length piece) more;
-          before = λ f. ap (on_limit left limit f ended (piece ++ more)) t.0 ∙ ap (λ p. at_limit limit (f false p)) (take_over left piece more);
-          after = λ f. ap (on_limit (left - used) limit f ended (drop used piece ++ more)) (sym same ∙ t.0)
-            ∙ ap (λ p. at_limit limit (f false p)) (take_over (left - used) (drop used piece) more
-              ∙ ap (λ p. p ++ take ((left - used) - length (drop used piece)) more) (sym (drop_take used left piece))
-              ∙ ap (λ j. drop used (take left piece) ++ take j more) room);
-        }
+      all = false;
+      mark = false;
+      rest = take (left - length piece) more;
+      before = λ f. ap (on_limit left limit f ended (piece ++ more)) t.0 ∙ ap (λ p. at_limit limit (f false p)) (take_over left piece more);
+      after = λ f. ap (on_limit (left - used) limit f ended (drop used piece ++ more)) (sym same ∙ t.0)
+          ∙ ap (λ p. at_limit limit (f false p)) (take_over (left - used) (drop used piece) more
+          ∙ ap (λ p. p ++ take ((left - used) - length (drop used piece)) more) (sym (drop_take used left piece))
+          ∙ ap (λ j. drop used (take left piece) ++ take j more) room);
+    }
       where
         room : (left - used) - length (drop used piece) ≡ left - length piece
         room = rw length-drop (omega arith)
@@ -100,29 +105,33 @@ module _ (left limit used : ℕ) (piece : List ℕ) (old new : Bool → List ℕ
 
   ended_tells : (o : Outcome) → Ends o → TellsEnd o (take left piece) old new → TellsEnd o piece (within left limit old) (within (left - used) limit new)
   ended_tells o e t = λ ended more.
-      let l = looks left limit used piece more ended fits_piece.0 fits_piece.1 in
-      (l.before old ∙ ap (capped l.all limit) (t l.mark l.rest).0 ∙ capped_end o limit l.all e,
-       ended_within o (left - used) limit new e (λ ended more. (t ended more).1) ended more)
+      let l = looks left limit used piece more ended fits_piece.0 fits_piece.1 in (
+        l.before old ∙ ap (capped l.all limit) (t l.mark l.rest).0 ∙ capped_end o limit l.all e,
+        ended_within o (left - used) limit new e (λ ended more. (t ended more).1) ended more,
+      )
 
   pub limited : (told : Option AnswerHead) (step : Step) → Tells step used (take left piece) told old new → Tells step used piece told (within left limit old) (within (left - used) limit new)
   limited told steps.More t = λ ended more.
       let l = looks left limit used piece more ended fits_piece.0 fits_piece.1 in
       l.before old ∙ ap (capped l.all limit) (t l.mark l.rest) ∙ sym (l.after new)
   limited told steps.Head t = record {
-      head = t.head; frame = t.frame; taken = t.taken; told_is = t.told_is;
-      reads = λ ended more.
+    head = t.head;
+    frame = t.frame;
+    taken = t.taken;
+    told_is = t.told_is;
+    reads = λ ended more.
         let l = looks left limit used piece more ended fits_piece.0 fits_piece.1 in
         l.before old ∙ ap (capped l.all limit) (t.reads l.mark l.rest) ∙ capped_head t.head _ limit l.all ∙ ap (after_head t.head) (sym (l.after new));
-    }
+  }
   limited told (steps.Body start stop) t = record {
-      some = t.some;
-      inside = let size = length-take left piece in let k = t.inside in omega arith;
-      reads = λ ended more.
+    some = t.some;
+    inside = let size = length-take left piece in let k = t.inside in omega arith;
+    reads = λ ended more.
         let l = looks left limit used piece more ended fits_piece.0 fits_piece.1 in
         l.before old ∙ ap (capped l.all limit) (t.reads l.mark l.rest) ∙ capped_body _ _ limit l.all
         ∙ ap (after_body (slice_range (take left piece) start stop)) (sym (l.after new))
         ∙ ap (λ b. after_body b (within (left - used) limit new ended (drop used piece ++ more))) (slice_take left piece start stop t.some t.inside);
-    }
+  }
   limited told steps.Whole t = ended_tells Whole (record { kept = λ _. refl }) t
   limited told steps.Early t = ended_tells Early (record { kept = λ _. refl }) t
   limited told (steps.Bad at) t = ended_tells (Bad at) (record { kept = λ _. refl }) t

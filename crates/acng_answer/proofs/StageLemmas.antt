@@ -10,7 +10,7 @@ use Rattle.acng_base.specs.declared.block.Mark.{Mark}
 use Rattle.acng_base.specs.declared.block.Mark.TheVariants.{Before}
 use Rattle.acng_base.specs.Lines.{block_len, mark_after}
 use Rattle.acng_base.specs.Heads.{Head, head_of}
-use Rattle.acng_base.specs.Answers.{Outcome, Whole, Early, Open, Bad, Reading, nothing, after_body, after_head, wants_more, counted_body, heads, from_head, on_head, framing, Framing, Counted}
+use Rattle.acng_base.specs.Answers.{Outcome, Whole, Early, Open, Bad, Reading, nothing, after_body, after_head, wants_more, counted_body, heads, within, from_head, on_head, framing, Framing, Counted}
 use Rattle.acng_base.proofs.Scans.{goes_on, block_stays, block_append, mark_append}
 use Rattle.acng_answer.specs.declared.framing.Framed.{Framed}
 use Rattle.acng_answer.specs.declared.stage.End.{End}
@@ -50,20 +50,20 @@ counted_more n xs more ended h =
     let n_is : n ≡ length xs + m = omega arith in
     let body_is : take n (xs ++ more) ≡ xs ++ take m more = ap (λ j. take j (xs ++ more)) n_is ∙ take-append-add xs more m in
     let test : nat_le n (length (xs ++ more)) ≡ nat_le m (length more) =
-        rw length-append (same_le n (length xs + length more) m (length more) (λ p. omega arith) (λ p. omega arith)) in
+    rw length-append (same_le n (length xs + length more) m (length more) (λ p. omega arith) (λ p. omega arith)) in
     rw (body_is, test) refl
 
 -- a piece of the body, as a step
 pub counted_tells : (n : ℕ) (piece held : List ℕ) (told : Option AnswerHead) → 0 < length piece → length piece < n
     → Tells (steps.Body 0 (length piece)) (length piece) piece told (staged (CountedBody n) held) (staged (CountedBody (n - length piece)) held)
 counted_tells n piece held told h k = record {
-    some = omega arith;
-    inside = omega arith;
-    reads = λ ended more.
-        let all : slice_range piece 0 (length piece) ≡ piece = take_all (length piece - 0) piece (omega arith) in
-        let none : drop (length piece) piece ++ more ≡ more = ap (λ t. t ++ more) (drop_of_length-le piece (omega arith)) in
-        rw (all, none) (counted_more n piece more ended (omega arith));
-  }
+  some = omega arith;
+  inside = omega arith;
+  reads = λ ended more.
+      let all : slice_range piece 0 (length piece) ≡ piece = take_all (length piece - 0) piece (omega arith) in
+      let none : drop (length piece) piece ++ more ≡ more = ap (λ t. t ++ more) (drop_of_length-le piece (omega arith)) in
+      rw (all, none) (counted_more n piece more ended (omega arith));
+}
 
 -- ---- a head
 
@@ -88,13 +88,14 @@ module _ (start : ℕ) (m : Mark) (h piece : List ℕ) (marked : mark_after Befo
   head_parts : (n : ℕ) → n ≤ length piece → (more : List ℕ)
       → (take (length h + n) (h ++ (piece ++ more)) ≡ h ++ take n piece) × (drop (length h + n) (h ++ (piece ++ more)) ≡ drop n piece ++ more)
   head_parts n le more = (
-      take-append-add h (piece ++ more) n ∙ ap (λ t. h ++ t) (take-append-le n piece more le),
-      drop-append-add h (piece ++ more) n ∙ drop-append-le n piece more le)
+    take-append-add h (piece ++ more) n ∙ ap (λ t. h ++ t) (take-append-le n piece more le),
+    drop-append-add h (piece ++ more) n ∙ drop-append-le n piece more le,
+  )
 
   -- the reading, once the block is whole
   head_whole : (n : ℕ) → block_len m (take (16384 - length h) piece) ≡ Some n → (ended : Bool) (more : List ℕ)
       → from_head start ended (h ++ (piece ++ more))
-        ≡ on_head (λ a rest. heads (length (h ++ (piece ++ more))) a ended rest) start (length h + n) ended (h ++ (piece ++ more)) (head_of (h ++ take n piece))
+      ≡ on_head (λ a rest. heads (length (h ++ (piece ++ more))) a ended rest) start (length h + n) ended (h ++ (piece ++ more)) (head_of (h ++ take n piece))
   head_whole n e ended more =
       let stays = block_stays m (take (16384 - length h) piece) [] n e in
       let len = length-take (16384 - length h) piece in
@@ -126,8 +127,8 @@ module _ (start : ℕ) (m : Mark) (h piece : List ℕ) (marked : mark_after Befo
   head_full n e le ended more =
       let room = 16384 - length h in
       let none : block_len Before (take 16384 (h ++ (piece ++ more))) ≡ None =
-        ap (block_len Before) (head_room h (piece ++ more) (omega arith) ∙ ap (λ t. h ++ t) (take-append-le room piece more le))
-        ∙ goes_on Before n (h ++ take room piece) (mark_append Before m h (take room piece) marked ∙ e) in
+      ap (block_len Before) (head_room h (piece ++ more) (omega arith) ∙ ap (λ t. h ++ t) (take-append-le room piece more le))
+      ∙ goes_on Before n (h ++ take room piece) (mark_append Before m h (take room piece) marked ∙ e) in
       let long : nat_le 16384 (length (h ++ (piece ++ more))) ≡ true = rw (length-append, length-append) (le-leb _ _ (omega arith)) in
       rw (none, long) refl
 
@@ -158,13 +159,13 @@ module _ (start : ℕ) (m : Mark) (h piece p : List ℕ) (marked : mark_after Be
         cases : (o : Option Head) → head_of (h ++ take n piece) ≡ o → IsFramed o (Some f) → TellsHead n piece told (staged (Heads m start) h) (staged stage held)
         cases None is j = absurd j
         cases (Some hd) is j = record {
-            head = hd;
-            frame = Counted f.length;
-            taken = j.0;
-            told_is = says ∙ rw (j.0, j.1) refl;
-            reads = λ ended more. head_final start m h piece marked fits n f.length hd in_piece is j.0 ended more
+          head = hd;
+          frame = Counted f.length;
+          taken = j.0;
+          told_is = says ∙ rw (j.0, j.1) refl;
+          reads = λ ended more. head_final start m h piece marked fits n f.length hd in_piece is j.0 ended more
               ∙ ap (after_head hd) (sym (reads ended (drop n piece ++ more)));
-          }
+        }
 
   pub full_tells : (n : Mark) → mark_after m p ≡ Some n → 16384 ≤ length (h ++ p) → (told : Option AnswerHead) (held : List ℕ) (used : ℕ)
       → Tells (steps.Bad start) used piece told (staged (Heads m start) h) (staged (Ended (ends.Bad start)) held)
@@ -180,7 +181,7 @@ module _ (start : ℕ) (m : Mark) (h piece p : List ℕ) (marked : mark_after Be
 pub stage_ends : (stage : Stage) (held : List ℕ) (at : ℕ) → Fits stage held at → (ended : Bool) → staged stage held ended [] ≡ nothing (at_end stage ended)
 stage_ends (Heads m start) held at f ended =
     let none : block_len Before (take 16384 (held ++ [])) ≡ None =
-      ap (block_len Before) (ap (take 16384) (append-nil held) ∙ take_all 16384 held (omega (arith, f.2))) ∙ goes_on Before m held f.0 in
+    ap (block_len Before) (ap (take 16384) (append-nil held) ∙ take_all 16384 held (omega (arith, f.2))) ∙ goes_on Before m held f.0 in
     let short : nat_le 16384 (length (held ++ [])) ≡ false = rw append-nil (lt-leb 16384 (length held) f.2) in
     rw (none, short) refl
 stage_ends (CountedBody left) held at f ended = let t : nat_le left 0 ≡ false = lt-leb left 0 f in rw (t, take_none left) refl
@@ -194,6 +195,15 @@ stage_open stage held at f live = stage_ends stage held at f false ∙ goes_on_f
     goes_on_from (Heads m start) live = refl
     goes_on_from (CountedBody left) live = refl
     goes_on_from (Ended e) live = absurd (live e refl)
+
+-- the same up to a limit
+pub rest_ends : (left limit : ℕ) (stage : Stage) (held : List ℕ) (at : ℕ) → Fits stage held at → (ended : Bool)
+    → within left limit (staged stage held) ended [] ≡ nothing (at_end stage ended)
+rest_ends left limit stage held at f ended = let t = le-leb 0 left (omega arith) in rw t (stage_ends stage held at f ended)
+
+pub rest_open : (left limit : ℕ) (stage : Stage) (held : List ℕ) (at : ℕ) → Fits stage held at → ((e : End) → stage ≢ Ended e)
+    → within left limit (staged stage held) false [] ≡ nothing Open
+rest_open left limit stage held at f live = let t = le-leb 0 left (omega arith) in rw t (stage_open stage held at f live)
 
 -- the end of a stage is its step
 pub end_stops : (e : End) (r : Reading) → r ≡ nothing (outcome_of e) → Stops (step_of e) r

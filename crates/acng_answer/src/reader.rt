@@ -94,7 +94,13 @@ impl AnswerReader {
             self.stage = Stage::Ended(End::Bad { at: self.limit });
             return (0, Step::Bad { at: self.limit });
         }
-        let (used, step, stage) = stage_step(self.stage, &mut self.held, &mut self.head, self.at, part);
+        let (used, step, stage) = stage_step(
+            self.stage,
+            &mut self.held,
+            &mut self.head,
+            self.at,
+            part,
+        );
         self.stage = stage;
         self.at += used as u64;
         (used, step)

@@ -154,7 +154,11 @@ fn head_step(
                     *head = Some(told(framed));
                     (count, Step::Head, first_stage(framed.length))
                 }
-                None => (count, Step::Bad { at: start }, Stage::Ended(End::Bad { at: start })),
+                None => (
+                    count,
+                    Step::Bad { at: start },
+                    Stage::Ended(End::Bad { at: start }),
+                ),
             }
         }
         Found::GoesOn(mark) => {
@@ -162,7 +166,11 @@ fn head_step(
             if held.len() < ROOM {
                 (part.len(), Step::More, Stage::Heads { mark, start })
             } else {
-                (part.len(), Step::Bad { at: start }, Stage::Ended(End::Bad { at: start }))
+                (
+                    part.len(),
+                    Step::Bad { at: start },
+                    Stage::Ended(End::Bad { at: start }),
+                )
             }
         }
     }

@@ -16,10 +16,10 @@ returns-in-Some-clause-tells c =
     let room : 16384 - c.len.result ≡ 16384 - length held = omega arith in
     let front : part ≡ take (16384 - length held) c.args.piece.now = c.front-part.ensures ∙ ap (λ k. take k c.args.piece.now) room in
     let block : c.deref.result.now ≡ held ++ take c.in-Ends.count part =
-        c.deref.ensures.value ∙ c.hold.ensures.items ∙ ap (λ t. held ++ take c.in-Ends.count t) (search rules) in
+    c.deref.ensures.value ∙ c.hold.ensures.items ∙ ap (λ t. held ++ take c.in-Ends.count t) (search rules) in
     final_tells c.args.start c.args.mark held c.args.piece.now part c.requires.fits.0 c.requires.fits.2 front c.in-Ends.count c.in-Ends.ensures.0 c.in-Ends.ensures.2
-      c.in-Some.framed c.first_stage.result (Some c.told.result) c.clear.new.self.items (subst (λ b. IsFramed (head_of b) (Some c.in-Some.framed)) block c.in-Some.ensures)
-      (ap Some c.told.ensures) (c.first_stage.ensures.reads c.clear.new.self.items)
+    c.in-Some.framed c.first_stage.result (Some c.told.result) c.clear.new.self.items (subst (λ b. IsFramed (head_of b) (Some c.in-Some.framed)) block c.in-Some.ensures)
+    (ap Some c.told.ensures) (c.first_stage.ensures.reads c.clear.new.self.items)
 
 pub returns-in-None-clause-tells : goal.returns-in-None-clause-tells
 returns-in-None-clause-tells c =
@@ -28,9 +28,9 @@ returns-in-None-clause-tells c =
     let room : 16384 - c.len.result ≡ 16384 - length held = omega arith in
     let front : part ≡ take (16384 - length held) c.args.piece.now = c.front-part.ensures ∙ ap (λ k. take k c.args.piece.now) room in
     let block : c.deref.result.now ≡ held ++ take c.in-Ends.count part =
-        c.deref.ensures.value ∙ c.hold.ensures.items ∙ ap (λ t. held ++ take c.in-Ends.count t) (search rules) in
+    c.deref.ensures.value ∙ c.hold.ensures.items ∙ ap (λ t. held ++ take c.in-Ends.count t) (search rules) in
     refused_tells c.args.start c.args.mark held c.args.piece.now part c.requires.fits.0 c.requires.fits.2 front c.in-Ends.count c.in-Ends.ensures.0 c.in-Ends.ensures.2
-      (subst (λ b. IsFramed (head_of b) None) block c.in-None.ensures) None held
+    (subst (λ b. IsFramed (head_of b) None) block c.in-None.ensures) None held
 
 pub returns-then-len-lt-ROOM-clause-fits : goal.returns-then-len-lt-ROOM-clause-fits
 returns-then-len-lt-ROOM-clause-fits c =

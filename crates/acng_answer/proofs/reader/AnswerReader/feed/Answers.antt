@@ -6,7 +6,7 @@ use borrow.Author.Tests.{eqb-true}
 use Rattle.acng_base.specs.Answers.{Reading, within, nothing, Open, Bad}
 use Rattle.acng_answer.specs.Reader.{Tells, Stops, IsOver, rest, staged, outcome_of}
 use Rattle.acng_answer.proofs.LimitLemmas.{limited, limit_reached, ended_within}
-use Rattle.acng_answer.proofs.StageLemmas.{stage_open, not_over, over_is}
+use Rattle.acng_answer.proofs.StageLemmas.{stage_open, rest_open, not_over, over_is}
 use Rattle.acng_answer.proofs.reader.AnswerReader.feed.Goals as goal
 
 pub returns-in-Ended-clause-over : goal.returns-in-Ended-clause-over
@@ -14,7 +14,7 @@ returns-in-Ended-clause-over c = λ step over.
     let s = c.self.inside in
     let t = le-leb 0 (s.limit - s.at) (omega arith) in
     let none : rest c.args.self.now false [] ≡ nothing (outcome_of c.in-Ended.end) =
-        subst (λ v. rest v false [] ≡ nothing (outcome_of c.in-Ended.end)) c.self.view_is (rw (t, c.in-Ended.is) refl) in
+    subst (λ v. rest v false [] ≡ nothing (outcome_of c.in-Ended.end)) c.self.view_is (rw (t, c.in-Ended.is) refl) in
     ap (λ s. (0, s)) (c.step.ensures ∙ over_is c.in-Ended.end step (subst (Stops step) none (over false [])))
 
 pub returns-then-is_empty-clause-tells : goal.returns-then-is_empty-clause-tells
@@ -28,15 +28,14 @@ returns-then-is_empty-clause-tells c =
     let live = stage_open s.stage s.held.items s.at c.self.invariant.fits c.in_default.not-Ended in
     λ ended more. (
       subst (λ v. rest v ended (piece ++ more) ≡ nothing (Bad s.limit)) c.self.view_is
-        (limit_reached left s.limit (staged s.stage s.held.items) ended (piece ++ more) none (let size = length-append piece more in omega arith) live),
-      ended_within (Bad s.limit) left s.limit (λ _ _. nothing (Bad s.limit)) (record { kept = λ _. refl }) (λ _ _. refl) ended more)
+          (limit_reached left s.limit (staged s.stage s.held.items) ended (piece ++ more) none (let size = length-append piece more in omega arith) live),
+      ended_within (Bad s.limit) left s.limit (λ _ _. nothing (Bad s.limit)) (record { kept = λ _. refl }) (λ _ _. refl) ended more,
+    )
 
 pub returns-then-is_empty-clause-over : goal.returns-then-is_empty-clause-over
 returns-then-is_empty-clause-over c = λ step over.
     let s = c.self.inside in
-    let t = le-leb 0 (s.limit - s.at) (omega arith) in
-    let live : rest c.args.self.now false [] ≡ nothing Open =
-        subst (λ v. rest v false [] ≡ nothing Open) c.self.view_is (rw t (stage_open s.stage s.held.items s.at c.self.invariant.fits c.in_default.not-Ended)) in
+    let live = subst (λ v. rest v false [] ≡ nothing Open) c.self.view_is (rest_open (s.limit - s.at) s.limit s.stage s.held.items s.at c.self.invariant.fits c.in_default.not-Ended) in
     absurd (not_over step (subst (Stops step) live (over false [])))
 
 pub returns-clause-tells : goal.returns-clause-tells
@@ -52,12 +51,10 @@ returns-clause-tells c =
     let fits : r.0 ≤ length (take left piece) = subst (λ (p : List ℕ). r.0 ≤ length p) c.front-part.ensures c.stage_step-used.ensures.used in
     let place : left - r.0 ≡ s.limit - (s.at + r.0) = omega arith in
     subst (λ v. Tells r.1 r.0 piece head (rest v) (within (s.limit - (s.at + r.0)) s.limit new)) c.self.view_is
-      (subst (λ k. Tells r.1 r.0 piece head (within left s.limit old) (within k s.limit new)) place (limited left s.limit r.0 piece old new fits head r.1 step))
+    (subst (λ k. Tells r.1 r.0 piece head (within left s.limit old) (within k s.limit new)) place (limited left s.limit r.0 piece old new fits head r.1 step))
 
 pub returns-clause-over : goal.returns-clause-over
 returns-clause-over c = λ step over.
     let s = c.self.inside in
-    let t = le-leb 0 (s.limit - s.at) (omega arith) in
-    let live : rest c.args.self.now false [] ≡ nothing Open =
-        subst (λ v. rest v false [] ≡ nothing Open) c.self.view_is (rw t (stage_open s.stage s.held.items s.at c.self.invariant.fits c.in_default.not-Ended)) in
+    let live = subst (λ v. rest v false [] ≡ nothing Open) c.self.view_is (rest_open (s.limit - s.at) s.limit s.stage s.held.items s.at c.self.invariant.fits c.in_default.not-Ended) in
     absurd (not_over step (subst (Stops step) live (over false [])))
