@@ -1,8 +1,7 @@
 -- A reading up to a limit, in two parts.
 use Rattle.std.proofs.Common.{◌≡◌, ℕ, zero, suc, ◌+◌, ◌-◌, ◌<◌, ◌≤◌, ◌⊎◌, inl, inr, Bool, true, false, List, [], ◌∷◌, ◌++◌, length, take, drop, refl, ap, sym, ◌∙◌, arith, nat_le, slice_range, Option}
-use Rattle.std.proofs.lemmas.List.{length-append, length-drop, length-take, take_all, take-take, take-append-le, drop-append-le}
+use Rattle.std.proofs.lemmas.List.{length-append, length-drop, length-take, take_all, take-take}
 use Rattle.std.proofs.lemmas.Bool.Decides.{leb_tells}
-use Rattle.std.proofs.lemmas.Bool.{le-leb}
 use borrow.Author.Tests.{lt-leb}
 use Rattle.acng_base.specs.Heads.{Head}
 use Rattle.acng_base.specs.Answers.{Outcome, Whole, Early, Open, Bad, Reading, nothing, after_body, after_head, within, on_limit, at_limit}

@@ -10,7 +10,7 @@ use Rattle.acng_base.specs.declared.block.Mark.{Mark}
 use Rattle.acng_base.specs.declared.block.Mark.TheVariants.{Before}
 use Rattle.acng_base.specs.Lines.{block_len, mark_after}
 use Rattle.acng_base.specs.Heads.{Head, head_of}
-use Rattle.acng_base.specs.Answers.{Outcome, Whole, Early, Open, Bad, Reading, nothing, after_body, after_head, wants_more, counted_body, heads, within, from_head, on_head, framing, Framing, Counted}
+use Rattle.acng_base.specs.Answers.{Outcome, Whole, Early, Open, Bad, Reading, nothing, after_body, after_head, counted_body, heads, within, from_head, on_head, framing, Counted}
 use Rattle.acng_base.proofs.Scans.{goes_on, block_stays, block_append, mark_append}
 use Rattle.acng_answer.specs.declared.framing.Framed.{Framed}
 use Rattle.acng_answer.specs.declared.stage.End.{End}
@@ -21,7 +21,7 @@ use Rattle.acng_answer.specs.declared.step.AnswerHead.{AnswerHead}
 use Rattle.acng_answer.specs.declared.step.Step.{Step}
 use Rattle.acng_answer.specs.declared.step.Step.TheVariants as steps
 use Rattle.acng_answer.specs.Framings.{IsFramed}
-use Rattle.acng_answer.specs.Reader.{Tells, TellsHead, staged, Fits, at_end, answer_head, length_told, outcome_of, step_of, Stops}
+use Rattle.acng_answer.specs.Reader.{Tells, TellsHead, staged, Fits, at_end, outcome_of, step_of, Stops}
 
 -- two tests that say the same
 pub same_le : (a b c d : ℕ) → (a ≤ b → c ≤ d) → (c ≤ d → a ≤ b) → nat_le a b ≡ nat_le c d

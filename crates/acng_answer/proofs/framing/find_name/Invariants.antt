@@ -1,4 +1,4 @@
-use Rattle.std.proofs.Common.{List, ℕ, map, take}
+use Rattle.std.proofs.Common.{map, take}
 use Rattle.httparse.specs.Spans.{header_bytes}
 use Rattle.acng_base.specs.Heads.{values}
 use Rattle.acng_answer.specs.Framings.{AreNamed}

@@ -1,5 +1,5 @@
 -- The value so far is that of a front of the digits, which is small.
-use Rattle.std.proofs.Common.{◌≡◌, ◌+◌, ◌*◌, ap, sym, ◌∙◌, arith}
+use Rattle.std.proofs.Common.{◌+◌, ◌*◌, ap, ◌∙◌, arith}
 use Rattle.acng_answer.proofs.FramingLemmas.{front_small, front_more}
 use Rattle.acng_answer.proofs.framing.number.Goals as goal
 

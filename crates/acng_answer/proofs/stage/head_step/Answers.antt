@@ -1,6 +1,5 @@
 -- The block that is held when it ends is what was held before and the front of the piece.
-use Rattle.std.proofs.Common.{rules, arith, ◌≡◌, ◌-◌, ◌≤◌, ◌++◌, length, sym, ap, ◌∙◌, take, subst, length-append, Some, None}
-use Rattle.std.proofs.lemmas.List.{length-take}
+use Rattle.std.proofs.Common.{rules, arith, ◌≡◌, ◌-◌, ◌≤◌, ◌++◌, length, ap, ◌∙◌, take, subst, length-append, Some, None}
 use Rattle.acng_base.specs.declared.block.Mark.TheVariants.{Before}
 use Rattle.acng_base.specs.Lines.{mark_after}
 use Rattle.acng_base.specs.Heads.{head_of}

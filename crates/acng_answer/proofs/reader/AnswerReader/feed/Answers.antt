@@ -4,7 +4,7 @@ use Rattle.std.proofs.lemmas.List.{length-take, length-append}
 use Rattle.std.proofs.lemmas.Bool.{le-leb}
 use borrow.Author.Tests.{eqb-true}
 use Rattle.acng_base.specs.Answers.{Reading, within, nothing, Open, Bad}
-use Rattle.acng_answer.specs.Reader.{Tells, Stops, IsOver, rest, staged, outcome_of}
+use Rattle.acng_answer.specs.Reader.{Tells, Stops, rest, staged, outcome_of}
 use Rattle.acng_answer.proofs.LimitLemmas.{limited, limit_reached, ended_within}
 use Rattle.acng_answer.proofs.StageLemmas.{stage_open, rest_open, not_over, over_is}
 use Rattle.acng_answer.proofs.reader.AnswerReader.feed.Goals as goal
