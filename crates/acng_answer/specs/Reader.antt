@@ -14,6 +14,7 @@ use Rattle.acng_answer.specs.declared.step.Step.TheVariants as steps
 
 -- ---- ends
 
+-- how an answer ended, as the reading says it and as a step says it
 abbrev pub outcome_of : End → Outcome
 outcome_of ends.Whole = Whole
 outcome_of ends.Early = Early

@@ -154,11 +154,7 @@ fn head_step(
                     *head = Some(told(framed));
                     (count, Step::Head, first_stage(framed.length))
                 }
-                None => (
-                    count,
-                    Step::Bad { at: start },
-                    Stage::Ended(End::Bad { at: start }),
-                ),
+                None => bad(count, start),
             }
         }
         Found::GoesOn(mark) => {
@@ -166,14 +162,18 @@ fn head_step(
             if held.len() < ROOM {
                 (part.len(), Step::More, Stage::Heads { mark, start })
             } else {
-                (
-                    part.len(),
-                    Step::Bad { at: start },
-                    Stage::Ended(End::Bad { at: start }),
-                )
+                bad(part.len(), start)
             }
         }
     }
+}
+
+// The end at a block that isn't a head that is taken.
+fn bad(used: usize, at: u64) -> (usize, Step, Stage)
+    ensures { result ≡ (used, Step.Bad at, Stage.Ended (End.Bad at)) }
+{
+    let end = End::Bad { at };
+    (used, end.step(), Stage::Ended(end))
 }
 
 // Adds bytes for which there is room.

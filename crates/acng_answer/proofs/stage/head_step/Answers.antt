@@ -28,8 +28,8 @@ returns-in-None-clause-tells c =
     let front : part ≡ take (16384 - length held) c.args.piece.now = c.front-part.ensures ∙ ap (λ k. take k c.args.piece.now) room in
     let block : c.deref.result.now ≡ held ++ take c.in-Ends.count part =
     c.deref.ensures.value ∙ c.hold.ensures.items ∙ ap (λ t. held ++ take c.in-Ends.count t) (search rules) in
-    refused_tells c.args.start c.args.mark held c.args.piece.now part c.requires.fits.0 c.requires.fits.2 front c.in-Ends.count c.in-Ends.ensures.0 c.in-Ends.ensures.2
-    (subst (λ b. IsFramed (head_of b) None) block c.in-None.ensures) None held
+    rw c.bad.ensures (refused_tells c.args.start c.args.mark held c.args.piece.now part c.requires.fits.0 c.requires.fits.2 front c.in-Ends.count c.in-Ends.ensures.0 c.in-Ends.ensures.2
+    (subst (λ b. IsFramed (head_of b) None) block c.in-None.ensures) None held)
 
 pub returns-then-len-lt-ROOM-clause-fits : goal.returns-then-len-lt-ROOM-clause-fits
 returns-then-len-lt-ROOM-clause-fits c =
@@ -44,4 +44,4 @@ returns-else-len-lt-ROOM-clause-tells c =
     let room : 16384 - c.len.result ≡ 16384 - length held = omega arith in
     let front : part ≡ take (16384 - length held) c.args.piece.now = c.front-part.ensures ∙ ap (λ k. take k c.args.piece.now) room in
     let full : 16384 ≤ length (held ++ part) = subst (λ b. 16384 ≤ length b) c.hold-in-GoesOn.ensures.items (omega arith) in
-    full_tells c.args.start c.args.mark held c.args.piece.now part c.requires.fits.0 c.requires.fits.2 front c.in-GoesOn.mark c.in-GoesOn.ensures full None held 0
+    rw c.bad-else-len-lt-ROOM.ensures (full_tells c.args.start c.args.mark held c.args.piece.now part c.requires.fits.0 c.requires.fits.2 front c.in-GoesOn.mark c.in-GoesOn.ensures full None held 0)
