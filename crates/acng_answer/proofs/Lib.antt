@@ -1,0 +1,3 @@
+pub mod FramingLemmas
+pub mod LimitLemmas
+pub mod StageLemmas
