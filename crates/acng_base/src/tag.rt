@@ -54,7 +54,8 @@ impl Tag {
     }
 
     pub fn as_bytes(&self) -> &[u8]
-        ensures { result.now ≡ self.now }
+        ensures bytes { result.now ≡ self.now }
+        ensures short { length self.now ≤ 256 }
     {
         &self.bytes[..self.len]
     }
