@@ -45,15 +45,16 @@ pub struct ReplyHead {
     pub part: Option<(u64, u64, u64)>,
     /// The length of the whole of which no part was asked. It is told on 416 alone.
     pub total: Option<u64>,
-    /// When the file was last changed. It is told on 200, 206 and 304 alone, of whatever kind; a page has none.
+    /// When the file was last changed. It is told on 200, 206 and 304 alone, whatever the kind: a page has none.
     pub modified: Option<Moment>,
-    /// The entity tag of the file. It is told on 200, 206 and 304 alone, of whatever kind; a page has none.
+    /// The entity tag of the file. It is told on 200, 206 and 304 alone, whatever the kind: a page has none.
     pub tag: Option<Tag>,
     /// Whether the connection closes after the reply.
     pub close: bool,
 }
 
-/// Writes the head at the front of `out`, and answers its length. It always fits.
+/// Writes the head at the front of `out`, and answers its length. It always fits. What stands in `out` behind it has no
+/// meaning.
 pub fn reply_head(head: &ReplyHead, out: &mut [u8; 1024]) -> usize
     requires status { is_reply_status head.now.status ≡ true }
     requires modified { IsWritable head.now.modified }
@@ -91,8 +92,8 @@ fn date_of(modified: Option<Moment>) -> [u8; 29]
 
 // ---- the lines
 
-// Each writes its line with its end from the place `at` on, or nothing, and answers the place after it. So many bytes
-// at most are the line's that the lines together stay below 640.
+// Each writes its line with its end from the place `at` on, or nothing, and answers the place after it. Their bounds
+// add up to less than 640 bytes with the empty line, so each has room.
 
 fn put_status(out: &mut [u8; 1024], status: u16) -> usize
     requires { is_reply_status status ≡ true }
