@@ -1,0 +1,307 @@
+//! The head of a reply (RFC 9112, section 4).
+//!
+//! A head has its lines in one order, each ended by CR and LF, and an empty line after the last. Which lines stand is a
+//! matter of the status: a field of a `ReplyHead` that its status has no line for is passed over. So the text is a
+//! function of the head, and of the text of its date, for every mix of fields. The text is at most 640 bytes long: the
+//! longest tag has 256, a number 20 and a date 29. No memory is taken.
+ghost use Rattle.std.specs.Prelude.{◌≡◌, ◌+◌, ◌≤◌, List, ℕ, ◌++◌, [], true, Some, take, length, unwrap_or, decimal};
+ghost use Rattle.http.specs.StatusCode.{reason_phrase};
+ghost use Rattle.acng_request.specs.ReplyHeads.{is_reply_status, IsWritable, IsDateOf, has_file, status_line, kind_text, type_line, framing_line, part_text, part_line, no_part_line, modified_line, tag_line, allow_line, connection_line, ended, head_text};
+
+use acng_base::{Moment, Tag};
+use http::StatusCode;
+use httpdate::HttpDate;
+use itoa::Buffer;
+
+/// How the end of a body is told (RFC 9112, section 6). None of them is told on 304, which has no body.
+#[derive(Clone, Copy, Debug, PartialEq, Eq)]
+pub enum Framing {
+    /// The body has so many bytes.
+    Length(u64),
+    /// The body comes in chunks.
+    Chunked,
+    /// The body ends with the connection.
+    ToEnd,
+}
+
+/// What a body is. It isn't told on 304.
+#[derive(Clone, Copy, Debug, PartialEq, Eq)]
+pub enum Kind {
+    /// A file: `application/octet-stream`.
+    File,
+    /// A line of text: `text/plain`.
+    Plain,
+    /// A page: `text/html`.
+    Html,
+}
+
+/// What the head of a reply says.
+#[derive(Debug, Drop)]
+pub struct ReplyHead {
+    pub status: u16,
+    pub framing: Framing,
+    pub kind: Kind,
+    /// The first and the last place of the part that is sent, and the length of the whole. It is told on 206 alone.
+    pub part: Option<(u64, u64, u64)>,
+    /// The length of the whole of which no part was asked. It is told on 416 alone.
+    pub total: Option<u64>,
+    /// When the file was last changed. It is told on 200, 206 and 304 alone, whatever the kind: a page has none.
+    pub modified: Option<Moment>,
+    /// The entity tag of the file. It is told on 200, 206 and 304 alone, whatever the kind: a page has none.
+    pub tag: Option<Tag>,
+    /// Whether the connection closes after the reply.
+    pub close: bool,
+}
+
+/// Writes the head at the front of `out`, and answers its length. It always fits. What stands in `out` behind it has no
+/// meaning.
+pub fn reply_head(head: &ReplyHead, out: &mut [u8; 1024]) -> usize
+    requires status { is_reply_status head.now.status ≡ true }
+    requires modified { IsWritable head.now.modified }
+    ensures text { (date : List ℕ) × IsDateOf head.now.modified date × (take result out.new ≡ head_text head.now date) }
+    ensures fits { result ≤ 1024 }
+    ensures short { result ≤ 640 }
+{
+    let date = date_of(head.modified);
+    let status = head.status;
+    let at = put_status(out, status);
+    let at = put_type(out, at, status, head.kind);
+    let at = put_framing(out, at, status, head.framing);
+    let at = put_part(out, at, status, head.part);
+    let at = put_no_part(out, at, status, head.total);
+    let at = put_modified(out, at, status, head.modified, &date);
+    let at = put_tag(out, at, status, &head.tag);
+    let at = put_allow(out, at, status);
+    let at = put_connection(out, at, head.close);
+    put(out, at, b"\r\n")
+}
+
+// The text of a moment's date. Where there is no moment, nothing is written of it.
+fn date_of(modified: Option<Moment>) -> [u8; 29]
+    requires { IsWritable modified }
+    ensures { IsDateOf modified result }
+{
+    let Some(moment) = modified else {
+        return [0; 29];
+    };
+    let Ok(date) = HttpDate::from_unix_secs(moment.0) else {
+        return [0; 29];
+    };
+    date.to_bytes()
+}
+
+// ---- the lines
+
+// Each writes its line with its end from the place `at` on, or nothing, and answers the place after it. Their bounds
+// add up to less than 640 bytes with the empty line, so each has room.
+
+fn put_status(out: &mut [u8; 1024], status: u16) -> usize
+    requires { is_reply_status status ≡ true }
+    ensures text { take result out.new ≡ ended (status_line status) }
+    ensures short { result ≤ 63 }
+{
+    let named = put(out, 0, b"HTTP/1.1 ");
+    let told = put_number(out, named, u64::from(status));
+    let spaced = put(out, told, b" ");
+    let reasoned = put(out, spaced, reason(status));
+    put(out, reasoned, b"\r\n")
+}
+
+fn put_type(out: &mut [u8; 1024], at: usize, status: u16, kind: Kind) -> usize
+    requires { at ≤ 700 }
+    ensures text { take result out.new ≡ take at out.old ++ ended (type_line status kind) }
+    ensures short { result ≤ at + 40 }
+{
+    if status == 304 {
+        return at;
+    }
+    put_line(out, at, b"Content-Type: ", kind_name(kind))
+}
+
+fn put_framing(out: &mut [u8; 1024], at: usize, status: u16, framing: Framing) -> usize
+    requires { at ≤ 700 }
+    ensures text { take result out.new ≡ take at out.old ++ ended (framing_line status framing) }
+    ensures short { result ≤ at + 38 }
+{
+    if status == 304 {
+        return at;
+    }
+    match framing {
+        Framing::Length(length) => put_number_line(out, at, b"Content-Length: ", length),
+        Framing::Chunked => put_line(out, at, b"Transfer-Encoding: ", b"chunked"),
+        Framing::ToEnd => at,
+    }
+}
+
+fn put_part(out: &mut [u8; 1024], at: usize, status: u16, part: Option<(u64, u64, u64)>) -> usize
+    requires { at ≤ 700 }
+    ensures text { take result out.new ≡ take at out.old ++ ended (part_line status part) }
+    ensures short { result ≤ at + 85 }
+{
+    if status != 206 {
+        return at;
+    }
+    match part {
+        Some((first, last, total)) => put_range(out, at, first, last, total),
+        None => at,
+    }
+}
+
+fn put_range(out: &mut [u8; 1024], at: usize, first: u64, last: u64, total: u64) -> usize
+    requires { at ≤ 700 }
+    ensures text { take result out.new ≡ take at out.old ++ ended (Some (part_text first last total)) }
+    ensures short { result ≤ at + 85 }
+{
+    let named = put(out, at, b"Content-Range: bytes ");
+    let begun = put_number(out, named, first);
+    let dashed = put(out, begun, b"-");
+    let stopped = put_number(out, dashed, last);
+    put_number_line(out, stopped, b"/", total)
+}
+
+fn put_no_part(out: &mut [u8; 1024], at: usize, status: u16, total: Option<u64>) -> usize
+    requires { at ≤ 700 }
+    ensures text { take result out.new ≡ take at out.old ++ ended (no_part_line status total) }
+    ensures short { result ≤ at + 45 }
+{
+    if status != 416 {
+        return at;
+    }
+    match total {
+        Some(total) => put_number_line(out, at, b"Content-Range: bytes */", total),
+        None => at,
+    }
+}
+
+fn put_modified(
+    out: &mut [u8; 1024],
+    at: usize,
+    status: u16,
+    modified: Option<Moment>,
+    date: &[u8; 29],
+) -> usize
+    requires { at ≤ 700 }
+    ensures text { take result out.new ≡ take at out.old ++ ended (modified_line status modified date.now) }
+    ensures short { result ≤ at + 46 }
+{
+    if !speaks_of_file(status) {
+        return at;
+    }
+    match modified {
+        Some(_) => put_line(out, at, b"Last-Modified: ", date),
+        None => at,
+    }
+}
+
+fn put_tag(out: &mut [u8; 1024], at: usize, status: u16, tag: &Option<Tag>) -> usize
+    requires { at ≤ 700 }
+    ensures text { take result out.new ≡ take at out.old ++ ended (tag_line status tag.now) }
+    ensures short { result ≤ at + 264 }
+{
+    if !speaks_of_file(status) {
+        return at;
+    }
+    match tag {
+        Some(tag) => put_line(out, at, b"ETag: ", tag.as_bytes()),
+        None => at,
+    }
+}
+
+fn put_allow(out: &mut [u8; 1024], at: usize, status: u16) -> usize
+    requires { at ≤ 700 }
+    ensures text { take result out.new ≡ take at out.old ++ ended (allow_line status) }
+    ensures short { result ≤ at + 18 }
+{
+    if status != 405 {
+        return at;
+    }
+    put_line(out, at, b"Allow: ", b"GET, HEAD")
+}
+
+fn put_connection(out: &mut [u8; 1024], at: usize, close: bool) -> usize
+    requires { at ≤ 700 }
+    ensures text { take result out.new ≡ take at out.old ++ ended (connection_line close) }
+    ensures short { result ≤ at + 24 }
+{
+    if close {
+        put_line(out, at, b"Connection: ", b"close")
+    } else {
+        put_line(out, at, b"Connection: ", b"keep-alive")
+    }
+}
+
+// ---- words of the lines
+
+// The reason phrase of a status.
+fn reason(status: u16) -> &'static [u8]
+    requires { is_reply_status status ≡ true }
+    ensures text { result.now ≡ unwrap_or (reason_phrase status) [] }
+    ensures short { length result.now ≤ 31 }
+{
+    let Ok(code) = StatusCode::from_u16(status) else {
+        return b"";
+    };
+    match code.canonical_reason() {
+        Some(reason) => reason.as_bytes(),
+        None => b"",
+    }
+}
+
+fn kind_name(kind: Kind) -> &'static [u8]
+    ensures text { result.now ≡ kind_text kind }
+    ensures short { length result.now ≤ 24 }
+{
+    match kind {
+        Kind::File => b"application/octet-stream",
+        Kind::Plain => b"text/plain",
+        Kind::Html => b"text/html",
+    }
+}
+
+fn speaks_of_file(status: u16) -> bool
+    ensures { result ≡ has_file status }
+{
+    status == 200 || status == 206 || status == 304
+}
+
+// ---- pieces of the lines
+
+// A line of a name and a value.
+fn put_line(out: &mut [u8; 1024], at: usize, name: &[u8], value: &[u8]) -> usize
+    requires { at + length name.now + length value.now + 2 ≤ 1024 }
+    ensures text { take result out.new ≡ take at out.old ++ ended (Some (name.now ++ value.now)) }
+    ensures count { result ≡ at + length name.now + length value.now + 2 }
+{
+    let named = put(out, at, name);
+    let told = put(out, named, value);
+    put(out, told, b"\r\n")
+}
+
+// A line of a name and a number.
+fn put_number_line(out: &mut [u8; 1024], at: usize, name: &[u8], number: u64) -> usize
+    requires { at + length name.now + 22 ≤ 1024 }
+    ensures text { take result out.new ≡ take at out.old ++ ended (Some (name.now ++ decimal number)) }
+    ensures short { result ≤ at + length name.now + 22 }
+{
+    let mut digits = Buffer::new();
+    put_line(out, at, name, digits.format(number).as_bytes())
+}
+
+fn put_number(out: &mut [u8; 1024], at: usize, number: u64) -> usize
+    requires { at + 20 ≤ 1024 }
+    ensures text { take result out.new ≡ take at out.old ++ decimal number }
+    ensures short { result ≤ at + 20 }
+{
+    let mut digits = Buffer::new();
+    put(out, at, digits.format(number).as_bytes())
+}
+
+fn put(out: &mut [u8; 1024], at: usize, piece: &[u8]) -> usize
+    requires { at + length piece.now ≤ 1024 }
+    ensures text { take result out.new ≡ take at out.old ++ piece.now }
+    ensures count { result ≡ at + length piece.now }
+{
+    let stop = at + piece.len();
+    out[at..stop].copy_from_slice(piece);
+    stop
+}
