@@ -46,6 +46,10 @@ pub record HasHead (text host path rest : List ℕ) : Type 0 where
   pub form : IsFirstForm host path
   pub is : text ≡ head_text host path ++ rest
 
+-- the text begins with a head
+abbrev pub BeginsHead : List ℕ → Type 0
+BeginsHead text = (host path rest : List ℕ) × HasHead text host path rest
+
 -- the text breaks off inside a head
 pub record MayBecomeHead (text : List ℕ) : Type 0 where
   pub host : List ℕ

@@ -27,6 +27,29 @@ abbrev pub OnClientFault : Got → Type 0 → Type 0
 OnClientFault got.ClientFault P = P
 OnClientFault _ P = Unit {0}
 
+-- a fact where memory was refused
+abbrev pub OnNoMemory : Got → Type 0 → Type 0
+OnNoMemory got.NoMemory P = P
+OnNoMemory _ P = Unit {0}
+
+-- a request, unless the link failed or memory was refused
+abbrev pub IsRequestUnlessHindered : Got → Type 0
+IsRequestUnlessHindered got.Ended = ⊥
+IsRequestUnlessHindered (got.Refused f) = ⊥
+IsRequestUnlessHindered _ = Unit {0}
+
+-- the end of the link, unless it failed
+abbrev pub IsEndedUnlessFault : Got → Type 0
+IsEndedUnlessFault got.Ended = Unit {0}
+IsEndedUnlessFault got.ClientFault = Unit {0}
+IsEndedUnlessFault _ = ⊥
+
+-- a refusal, unless the link failed
+abbrev pub IsRefusedUnlessFault : Got → Type 0
+IsRefusedUnlessFault (got.Refused f) = Unit {0}
+IsRefusedUnlessFault got.ClientFault = Unit {0}
+IsRefusedUnlessFault _ = ⊥
+
 -- a fact on the cause, where the head is refused
 abbrev pub IfRefused : Got → (HeadFault → Type 0) → Type 0
 IfRefused (got.Refused f) P = P f

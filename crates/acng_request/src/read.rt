@@ -5,8 +5,8 @@
 ghost use Rattle.std.specs.Prelude.{◌≡◌, ◌≤◌, ◌++◌, List, ℕ, codes, length, IfSome, IfOk};
 ghost use Rattle.std.specs.Io.KnownBytes.{Keeps, IsAtEnd};
 ghost use Rattle.acng_base.specs.Causes.{HasCause, Rose};
-ghost use Rattle.acng_request.specs.FirstForm.{HasHead, MayBecomeHead, NeverHead};
-ghost use Rattle.acng_request.specs.Gots.{IfRequest, UnlessRequest, OnEnded, OnClientFault, IfRefused, IsFirstRequest, GivesRequest, TakesHead};
+ghost use Rattle.acng_request.specs.FirstForm.{BeginsHead, MayBecomeHead, NeverHead};
+ghost use Rattle.acng_request.specs.Gots.{IfRequest, UnlessRequest, OnEnded, OnClientFault, OnNoMemory, IfRefused, IsRequestUnlessHindered, IsEndedUnlessFault, IsRefusedUnlessFault, IsFirstRequest, GivesRequest, TakesHead};
 ghost use Rattle.acng_request.specs.Judged.{Judges, Moves, IsHead, EndsUndecided};
 
 use crate::buffer::HeadBuf;
@@ -23,14 +23,21 @@ pub fn read_request<L: Link>(alloc: Global, link: &mut L, buf: &mut HeadBuf) -> 
     ensures request { IfSome (L.left link.old) (λ bytes. IfRequest result (λ r. GivesRequest (buf.old ++ bytes) r buf.new (L.left link.new))) }
     ensures form { IfRequest result (λ r. IsFirstRequest r) }
 
-    // Each other answer, where it comes. Want of memory leaves all bytes.
+    // Each other answer comes only there.
     ensures ended { IfSome (L.left link.old) (λ bytes. OnEnded result (MayBecomeHead (buf.old ++ bytes))) }
     ensures at_end { OnEnded result (IsAtEnd (L.left link.new)) }
     ensures refused { IfSome (L.left link.old) (λ bytes. IfRefused result (λ _. NeverHead (buf.old ++ bytes))) }
     ensures bad_head { IfRefused result (λ fault. fault ≡ HeadFault.BadHead) }
     ensures client_fault { OnClientFault result (Rose (L.faults link.old) (L.faults link.new)) }
 
-    // What stays.
+    ensures no_memory { IfSome (L.left link.old) (λ bytes. OnNoMemory result (BeginsHead (buf.old ++ bytes))) }
+
+    // And it does come there.
+    ensures whole { IfSome (L.left link.old) (λ bytes. BeginsHead (buf.old ++ bytes) → IsRequestUnlessHindered result) }
+    ensures breaks_off { IfSome (L.left link.old) (λ bytes. MayBecomeHead (buf.old ++ bytes) → IsEndedUnlessFault result) }
+    ensures bad { IfSome (L.left link.old) (λ bytes. NeverHead (buf.old ++ bytes) → IsRefusedUnlessFault result) }
+
+    // What stays. No byte is lost, and nothing is written.
     ensures moved { UnlessRequest result (Moves buf.old buf.new (L.left link.old) (L.left link.new)) }
     ensures faults { L.faults link.old ≤ L.faults link.new }
     ensures written { Keeps (L.written link.old) (L.written link.new) }
