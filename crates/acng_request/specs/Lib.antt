@@ -1,1 +1,4 @@
+pub mod FirstForm
+pub mod Gots
+pub mod Judged
 pub mod ReplyHeads

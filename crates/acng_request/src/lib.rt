@@ -1,11 +1,23 @@
 //! What the client and the proxy say to each other before a body: the head of a request, and the head of a reply
 //! (RFC 9112).
 //!
-//! A head is a text in lines. Here are the texts alone; which reply a request gets is decided above.
+//! A request's head is read from a link, through a buffer that keeps what was read past it. A reply's head is written
+//! into a buffer of fixed length. Which reply a request gets is decided above.
 #![tactic(auto)]
 
+mod against;
+pub mod buffer;
+mod first_form;
+pub mod got;
+pub mod read;
 pub mod reply;
 #[cfg(test)]
 mod reply_tests;
+mod target;
+#[cfg(test)]
+mod tests;
 
+pub use buffer::HeadBuf;
+pub use got::{Got, HeadFault, Part, Request};
+pub use read::read_request;
 pub use reply::{Framing, Kind, ReplyHead, reply_head};
