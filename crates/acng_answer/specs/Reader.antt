@@ -1,5 +1,5 @@
 -- A reader of an answer: what it makes of all that may follow, and what each step says of that.
-use Rattle.std.specs.Prelude.{◌≡◌, ℕ, ◌+◌, ◌-◌, ◌^◌, ◌<◌, ◌≤◌, Bool, List, ◌++◌, length, drop, slice_range, Option, Some, None, ⊤}
+use Rattle.std.specs.Prelude.{◌≡◌, ℕ, ◌+◌, ◌-◌, ◌^◌, ◌<◌, ◌≤◌, Bool, List, ◌++◌, length, drop, slice_range, Option, Some, None, IsSome, ⊤}
 use Rattle.acng_base.specs.declared.block.Mark.TheVariants.{Before}
 use Rattle.acng_base.specs.Lines.{mark_after}
 use Rattle.acng_base.specs.Heads.{Head}
@@ -52,6 +52,12 @@ Fits (Heads mark start) held at = (mark_after Before held ≡ Some mark) × (sta
 Fits (CountedBody left) held at = 0 < left
 Fits (Ended end) held at = ⊤
 
+-- the head is told from its end on
+abbrev pub FitsHead : Stage → Option AnswerHead → Type 0
+FitsHead (Heads mark start) head = head ≡ None
+FitsHead (CountedBody left) head = IsSome head
+FitsHead (Ended end) head = ⊤
+
 -- what the end of the text means in a stage
 abbrev pub at_end : Stage → Bool → Outcome
 at_end (Heads mark start) ended = wants_more ended
@@ -73,11 +79,12 @@ abbrev pub rest : State → Bool → List ℕ → Reading
 rest r ended text = within (r.limit - r.at) r.limit (staged r.stage r.held) ended text
 
 -- what is always true of the fields
-pub record IsSound (capacity at limit : ℕ) (stage : Stage) (held : List ℕ) : Type 0 where
+pub record IsSound (capacity at limit : ℕ) (stage : Stage) (held : List ℕ) (head : Option AnswerHead) : Type 0 where
   pub room : 16384 ≤ capacity
   pub below : at ≤ limit
   pub limited : limit ≤ 2 ^ 41
   pub fits : Fits stage held at
+  pub told : FitsHead stage head
 
 -- ---- steps
 
@@ -101,7 +108,7 @@ pub record TellsHead (used : ℕ) (piece : List ℕ) (told : Option AnswerHead) 
 -- the old reading is a part of the body, and then the new reading
 pub record TellsBody (start stop used : ℕ) (piece : List ℕ) (old new : Bool → List ℕ → Reading) : Type 0 where
   pub some : start < stop
-  pub inside : stop ≤ length piece
+  pub inside : stop ≤ used
   pub reads : (ended : Bool) (more : List ℕ) → old ended (piece ++ more) ≡ after_body (slice_range piece start stop) (new ended (drop used piece ++ more))
 
 -- the old reading is this end alone, and so is the new one
@@ -127,11 +134,11 @@ Progresses used steps.Whole = ⊤
 Progresses used steps.Early = ⊤
 Progresses used (steps.Bad at) = ⊤
 
--- the head that is told stays at each step but the one that tells it
+-- the head is told by one step, before the body, and stays
 abbrev pub KeepsHead : Step → Option AnswerHead → Option AnswerHead → Type 0
-KeepsHead steps.Head old new = ⊤
+KeepsHead steps.Head old new = old ≡ None
 KeepsHead steps.More old new = new ≡ old
-KeepsHead (steps.Body start stop) old new = new ≡ old
+KeepsHead (steps.Body start stop) old new = (IsSome old) × (new ≡ old)
 KeepsHead steps.Whole old new = new ≡ old
 KeepsHead steps.Early old new = new ≡ old
 KeepsHead (steps.Bad at) old new = new ≡ old

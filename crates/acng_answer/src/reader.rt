@@ -36,7 +36,7 @@ impl Model for AnswerReader {
 
     ghost view = { λ r. record { at = r.at; limit = r.limit; stage = r.stage; held = r.held.items; head = r.head } };
 
-    ghost invariant = { λ r. IsSound (vec_capacity r.held) r.at r.limit r.stage r.held.items };
+    ghost invariant = { λ r. IsSound (vec_capacity r.held) r.at r.limit r.stage r.held.items r.head };
 }
 
 impl AnswerReader {

@@ -7,9 +7,9 @@
 //! A head of a body of no bytes goes to `Ended(Whole)` at once. The connection's end, a head that isn't taken and the
 //! limit go from every stage to `Ended`. Bytes of a head are looked at once and copied once, in bulk; bytes of a body
 //! are ranges of the piece.
-ghost use Rattle.std.specs.Prelude.{◌≡◌, ℕ, ◌+◌, ◌-◌, ◌^◌, ◌<◌, ◌≤◌, Bool, List, ◌++◌, Option, Some, length, take, true, vec_capacity};
+ghost use Rattle.std.specs.Prelude.{◌≡◌, ℕ, ◌+◌, ◌-◌, ◌^◌, ◌<◌, ◌≤◌, Bool, List, ◌++◌, Option, Some, None, IsSome, length, take, true, vec_capacity};
 ghost use Rattle.acng_base.specs.Answers.{counted_body};
-ghost use Rattle.acng_answer.specs.Reader.{Fits, Tells, Progresses, KeepsHead, staged, outcome_of, step_of, at_end};
+ghost use Rattle.acng_answer.specs.Reader.{Fits, FitsHead, Tells, Progresses, KeepsHead, staged, outcome_of, step_of, at_end};
 ghost use Rattle.acng_answer.specs.declared.step.AnswerHead.{AnswerHead};
 
 use crate::framing::{Framed, frame};
@@ -80,6 +80,7 @@ pub fn stage_step(
 ) -> (usize, Step, Stage)
     requires room { 16384 ≤ vec_capacity held.old }
     requires fits { Fits stage held.old.items at }
+    requires told { FitsHead stage head.old }
     requires piece { 0 < length piece.now }
     requires place { at + length piece.now < 2 ^ 63 }
     ensures used { result.0 ≤ length piece.now }
@@ -89,6 +90,7 @@ pub fn stage_step(
     ensures head { KeepsHead result.1 head.old head.new }
     ensures room { vec_capacity held.old ≤ vec_capacity held.new }
     ensures fits { Fits result.2 held.new.items (at + result.0) }
+    ensures told { FitsHead result.2 head.new }
 {
     match stage {
         Stage::Heads { mark, start } => head_step(held, head, mark, start, piece),
@@ -115,6 +117,7 @@ fn counted_step(left: u64, piece: &[u8]) -> (usize, Stage)
     ensures tells { (held : List ℕ) (told : Option AnswerHead) → Tells (Step.Body 0 result.0) result.0 piece.now told (staged (Stage.CountedBody left) held) (staged result.1 held) }
 
     ensures fits { (held : List ℕ) (at : ℕ) → Fits result.1 held at }
+    ensures told { (head : Option AnswerHead) → IsSome head → FitsHead result.1 head }
 {
     if (piece.len() as u64) < left {
         let left = left - piece.len() as u64;
@@ -134,6 +137,7 @@ fn head_step(
 ) -> (usize, Step, Stage)
     requires room { 16384 ≤ vec_capacity held.old }
     requires fits { Fits (Stage.Heads mark start) held.old.items (start + length held.old.items) }
+    requires told { head.old ≡ None }
     requires piece { 0 < length piece.now }
     ensures used { result.0 ≤ length piece.now }
     ensures progress { Progresses result.0 result.1 }
@@ -142,6 +146,7 @@ fn head_step(
     ensures head { KeepsHead result.1 head.old head.new }
     ensures room { vec_capacity held.old ≤ vec_capacity held.new }
     ensures fits { Fits result.2 held.new.items (start + length held.old.items + result.0) }
+    ensures told { FitsHead result.2 head.new }
 {
     let part = front(piece, ROOM - held.len());
     match scan(mark, part) {
@@ -199,6 +204,7 @@ fn told(framed: Framed) -> AnswerHead
 fn first_stage(length: u64) -> Stage
     ensures reads { (held : List ℕ) (ended : Bool) (text : List ℕ) → staged result held ended text ≡ counted_body length ended text }
     ensures fits { (held : List ℕ) (at : ℕ) → Fits result held at }
+    ensures told { (head : Option AnswerHead) → IsSome head → FitsHead result head }
 {
     if length == 0 {
         Stage::Ended(End::Whole)
