@@ -1,0 +1,5 @@
+pub mod FileReplies
+pub mod Passing
+pub mod Pieces
+pub mod Sendings
+pub mod Steps

@@ -1,0 +1,4 @@
+pub mod Events
+pub mod Passes
+pub mod Replies
+pub mod Runs
