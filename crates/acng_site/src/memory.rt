@@ -93,10 +93,10 @@ impl<G: Gate> Conn for MemoryConn<G> {
 
     fn read(&mut self, buf: &mut [u8]) -> Result<usize, MemorySlip>
         ensures bound { ReadsAtMost result buf.new }
-        ensures bytes { true ≡ true → IfOk result (λ n. self.old.left ≡ take n buf.new ++ self.new.left) }
-        ensures end { true ≡ true → IfOk result (λ n. n ≡ 0 → 0 < length buf.new → (self.old.left ≡ []) × (self.old.fault ≡ false)) }
+        ensures bytes { IfOk result (λ n. self.old.left ≡ take n buf.new ++ self.new.left) }
+        ensures end { IfOk result (λ n. n ≡ 0 → 0 < length buf.new → (self.old.left ≡ []) × (self.old.fault ≡ false)) }
         ensures slip { IfErr result (λ s. (⟦<MemorySlip as OriginSlip>⟧.number s ≡ self.old.number) × (⟦<MemorySlip as OriginSlip>⟧.ask s ≡ self.old.ask)) }
-        ensures broken { true ≡ true → OnErr result ((self.old.left ≡ []) × (self.new.left ≡ []) × (self.old.fault ≡ true)) }
+        ensures broken { OnErr result ((self.old.left ≡ []) × (self.new.left ≡ []) × (self.old.fault ≡ true)) }
         ensures number { self.new.number ≡ self.old.number }
         ensures ask { self.new.ask ≡ self.old.ask }
         ensures fault { self.new.fault ≡ self.old.fault }
@@ -169,7 +169,7 @@ impl<S: Site, G: Gate> MemoryOrigin<S, G> {
         ensures right { IfOk result (λ started. started.1.next ≡ 0) }
     {
         let rules = copies(alloc, rules)?;
-        let gate = Arc::new(alloc, gate).map_err(|_| NoMemory)?;
+        let gate = Arc::new(alloc, gate)?;
         let origin = MemoryOrigin {
             rules,
             cut,

@@ -20,6 +20,7 @@ use url::{ParseError, Position, Url};
 pub enum UrlFault {
     /// It doesn't read as a URL, or its scheme isn't `http`.
     NotHttp,
+    /// Memory was refused, or the URL came to 4 GB.
     NoMemory,
 }
 

@@ -3,7 +3,7 @@ use Rattle.acng_site.proofs.NextBytes.{next_and_rest}
 use Rattle.acng_site.proofs.memory.MemoryConnConn.read.Goals as goal
 
 pub returns-clause-bytes : goal.returns-clause-bytes
-returns-clause-bytes g c _ =
+returns-clause-bytes g c =
     let bytes = c.self.inside.bytes in
     let at = c.self.inside.at in
     let count = c.copy_front-count in
