@@ -1,5 +1,9 @@
 pub mod FileReplies
+pub mod Fronts
+pub mod Heads
 pub mod Passing
 pub mod Pieces
+pub mod Ran
 pub mod Sendings
 pub mod Steps
+pub mod Taken

@@ -1,13 +1,16 @@
 -- What a link took of a reply.
-use Rattle.std.proofs.Common.{◌≡◌, ℕ, ◌+◌, ◌-◌, ◌≤◌, Bool, true, false, List, ◌++◌, length, take, Option, Result, Ok, Err, is_ok, is_err, OnOk, OnErr, inl, inr, refl, ap, sym, ◌∙◌, subst, arith}
+use Rattle.std.proofs.Common.{◌≡◌, ℕ, ◌+◌, ◌-◌, ◌≤◌, Bool, true, false, List, ◌++◌, length, take, Option, Some, None, ◌⊎◌, Result, Ok, Err, is_ok, is_err, OnOk, OnErr, inl, inr, refl, ap, sym, ◌∙◌, subst, arith}
 use Rattle.std.proofs.lemmas.List.{length-append, take-append-le, take_all}
 use Rattle.std.proofs.Math.Seq.{take-append-add}
 use Rattle.std.proofs.KnownBytes.{Appends-trans}
-use Rattle.std.specs.Io.KnownBytes.{Appends}
+use Rattle.std.specs.Io.KnownBytes.{Appends, Keeps}
 use Rattle.acng_base.specs.Causes.{Rose}
 use Rattle.acng_cli.specs.declared.note.Note.{Note}
 use Rattle.acng_cli.specs.declared.note.Cause.TheVariants.{ClientFault}
-use Rattle.acng_cli.specs.Replies.{Reply, Sends, SendsBoth}
+use Rattle.acng_base.specs.Answers.{Reading}
+use Rattle.acng_cli.specs.declared.refusal.Refusal.TheVariants.{NoMemory}
+use Rattle.acng_cli.specs.Replies.{Reply, Sends, SendsBoth, WroteAll, WroteFront, refused, reply_to}
+use Rattle.acng_cli.specs.Runs.{RepliesTo}
 
 module _ (head body : List ℕ) (old new : Option (List ℕ)) where
   -- the link failed in the head
@@ -97,3 +100,31 @@ sent_front reply note old new before after head body of status label cause whole
         bytes = subst (Appends old new) (ap (take s.count) joined) s.bytes;
       });
     }
+
+kept_then : (a b c : Option (List ℕ)) (bytes : List ℕ) → Keeps a b → Appends b c bytes → Appends a c bytes
+kept_then None b c bytes k h = tt
+kept_then (Some x) None c bytes k h = absurd k
+kept_then (Some x) (Some y) None bytes k h = absurd h
+kept_then (Some x) (Some y) (Some z) bytes k h = h ∙ ap (λ t. t ++ bytes) k
+
+-- what was written after nothing was
+pub sends_since : (reply : Reply) (note : Note) (old mid new : Option (List ℕ)) (before between after : ℕ) → Keeps old mid → before ≤ between
+    → Sends reply note mid new between after → Sends reply note old new before after
+sends_since reply note old mid new before between after kept later s = record { status = s.status; label = s.label; written = written s.written }
+  where
+    written : WroteAll reply note mid new ⊎ WroteFront reply note mid new between after → WroteAll reply note old new ⊎ WroteFront reply note old new before after
+    written (inl w) = inl (record { cause = w.cause; sent = w.sent; whole = w.whole; bytes = kept_then old mid new _ kept w.bytes })
+    written (inr w) = inr (record {
+      cause = w.cause;
+      whole = w.whole;
+      rose = rose_since before between after later w.rose;
+      count = w.count;
+      few = w.few;
+      sent = w.sent;
+      bytes = kept_then old mid new _ kept w.bytes;
+    })
+
+pub replies_since : (tells : Bool) (told : Reading) (n : ℕ) (note : Note) (old mid new : Option (List ℕ)) (before between after : ℕ) → Keeps old mid → before ≤ between
+    → RepliesTo tells told n note mid new between after → RepliesTo tells told n note old new before after
+replies_since tells told n note old mid new before between after kept later (r, is, inl s) = (r, is, inl (sends_since (reply_to n r) note old mid new before between after kept later s))
+replies_since tells told n note old mid new before between after kept later (r, is, inr s) = (r, is, inr (sends_since (refused NoMemory) note old mid new before between after kept later s))

@@ -1,4 +1,5 @@
 pub mod Events
+pub mod Once
 pub mod Passes
 pub mod Replies
 pub mod Runs

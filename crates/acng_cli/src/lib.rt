@@ -8,6 +8,8 @@ mod answer;
 mod event;
 mod refusal;
 pub mod note;
+pub mod once;
 mod pass;
 
+pub use once::run_once;
 pub use note::{Cause, Label, Note, Once, OnceStop, Shown};
