@@ -3,3 +3,4 @@ pub mod Once
 pub mod Passes
 pub mod Replies
 pub mod Runs
+pub mod Single

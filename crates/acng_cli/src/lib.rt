@@ -6,10 +6,14 @@
 
 mod answer;
 mod event;
-mod refusal;
 pub mod note;
 pub mod once;
 mod pass;
+mod refusal;
+pub mod single;
+#[cfg(test)]
+mod tests;
 
+pub use note::{Cause, HeadFault, Label, Note, Once, OnceStop, Shown};
 pub use once::run_once;
-pub use note::{Cause, Label, Note, Once, OnceStop, Shown};
+pub use single::run_single;
