@@ -1,9 +1,9 @@
 -- What is judged of the bytes held holds of all that the link had.
-use Rattle.std.proofs.Common.{◌≡◌, ℕ, ◌<◌, ◌+◌, List, [], ◌∷◌, ◌++◌, Some, None, IfSome, length, drop, codes, refl, sym, ap, ◌∙◌, subst, arith, append_assoc, append-nil}
+use Rattle.std.proofs.Common.{◌≡◌, ℕ, List, [], ◌∷◌, ◌++◌, Some, None, IfSome, length, drop, codes, refl, sym, ap, ◌∙◌, subst, arith, append_assoc, append-nil}
 use Rattle.std.proofs.lemmas.List.{append_cancel_left, length-append}
 use Rattle.std.specs.Io.KnownBytes.{IsAtEnd}
 use Rattle.std.specs.declared.option.Option.{Option}
-use Rattle.acng_request.specs.FirstForm.{IsFirstForm, tail_text, head_text, HasHead, BeginsHead, MayBecomeHead, NeverHead}
+use Rattle.acng_request.specs.FirstForm.{IsFirstForm, tail_text, head_text, BeginsHead, MayBecomeHead, NeverHead}
 use Rattle.acng_request.specs.Judged.{Moves, Judges, IsTarget, IsHead, IsFront}
 use Rattle.acng_request.specs.declared.first_form.Form.TheVariants.{Never}
 use Rattle.acng_request.proofs.Cuts.{cut_unique}

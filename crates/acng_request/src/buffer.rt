@@ -42,7 +42,7 @@ impl HeadBuf {
     }
 
     /// The bytes held.
-    pub fn as_bytes(&self) -> &[u8]
+    pub(crate) fn as_bytes(&self) -> &[u8]
         ensures bytes { result.now ≡ self.now }
         ensures few { length self.now ≤ 16384 }
     {
@@ -50,7 +50,7 @@ impl HeadBuf {
     }
 
     /// Reads what comes into the room that is left.
-    pub fn fill<L: Link>(&mut self, link: &mut L) -> Result<usize, Failed>
+    pub(crate) fn fill<L: Link>(&mut self, link: &mut L) -> Result<usize, Failed>
         requires { length self.old < 16384 }
         ensures bytes { Fills self.old self.new (L.left link.old) (L.left link.new) result }
         ensures others { Keeps (L.written link.old) (L.written link.new) }
@@ -63,7 +63,7 @@ impl HeadBuf {
     }
 
     /// Drops so many bytes from the front.
-    pub fn use_up(&mut self, count: usize)
+    pub(crate) fn use_up(&mut self, count: usize)
         requires { count ≤ length self.old }
         ensures { self.new ≡ drop count self.old }
     {

@@ -29,7 +29,6 @@ pub fn read_request<L: Link>(alloc: Global, link: &mut L, buf: &mut HeadBuf) -> 
     ensures refused { IfSome (L.left link.old) (λ bytes. IfRefused result (λ _. NeverHead (buf.old ++ bytes))) }
     ensures bad_head { IfRefused result (λ fault. fault ≡ HeadFault.BadHead) }
     ensures client_fault { OnClientFault result (Rose (L.faults link.old) (L.faults link.new)) }
-
     ensures no_memory { IfSome (L.left link.old) (λ bytes. OnNoMemory result (BeginsHead (buf.old ++ bytes))) }
 
     // And it does come there.

@@ -73,7 +73,8 @@ fn is_plain(b: u8) -> bool
         || b == b'+'
 }
 
-/// Whether some bytes make the text HOST/PATH of a head. If any do, so do no more bytes, `a`, `/a` or `a/a`.
+/// Whether some bytes make the text HOST/PATH of a head. If any do, so does one of four ends: nothing, `a`, `/a` or
+/// `a/a`. So these are tried, and the rule on paths stands in one place.
 pub fn may_be_target(text: &[u8]) -> bool
     ensures { MatchBool result ((more : List ℕ) × IsTarget (text.now ++ more)) ((more : List ℕ) → IsTarget (text.now ++ more) → ⊥) }
 {
@@ -97,6 +98,7 @@ fn is_target_with(text: &[u8], end: &[u8]) -> bool
     if CachePath::MOST < text.len() {
         return false;
     }
+    // A path's most bytes, and three.
     let mut whole = [0; 1027];
     put(&mut whole, text, end);
     is_target(&whole[..text.len() + end.len()])

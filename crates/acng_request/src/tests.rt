@@ -15,6 +15,22 @@ fn short(got: &Got) -> &[u8] {
     }
 }
 
+// Reads from a link with these bytes, in pieces, whose calls of these numbers fail.
+fn reading(
+    rt: &HostRuntime,
+    input: &[u8],
+    cut: usize,
+    fail: &[u64],
+) -> Result<(Got, HeadBuf), Fail> {
+    let alloc = rt.alloc();
+    let mut link = MemoryLink::new(alloc, input, 0, cut.max(1), fail)
+        .ok()
+        .ok_or("memory")?;
+    let mut buf = HeadBuf::new(alloc).ok().ok_or("memory")?;
+    let got = read_request(alloc, &mut link, &mut buf);
+    Ok((got, buf))
+}
+
 #[test]
 fn a_head_is_read_in_any_cutting(rt: HostRuntime) -> Result<(), Fail> {
     for (input, want, kept) in [
@@ -55,12 +71,7 @@ fn a_head_is_read_in_any_cutting(rt: HostRuntime) -> Result<(), Fail> {
         ("GET http://h/a HTTP/1.1\n\n", "bad", ""),
     ] {
         for cut in [1, 7, 4096] {
-            let alloc = rt.alloc();
-            let mut link = MemoryLink::new(alloc, input.as_bytes(), 0, cut, [].as_slice())
-                .ok()
-                .ok_or("memory")?;
-            let mut buf = HeadBuf::new(alloc).ok().ok_or("memory")?;
-            let got = read_request(alloc, &mut link, &mut buf);
+            let (got, buf) = reading(&rt, input.as_bytes(), cut, [].as_slice())?;
             assert_eq!(rt; short(&got), want.as_bytes(), "{input} in {cut}");
             if cut == 4096 && !kept.is_empty() {
                 assert_eq!(rt; buf.as_bytes(), kept.as_bytes(), "{input}");
@@ -90,38 +101,21 @@ fn a_host_has_253_bytes_and_a_target_1024(rt: HostRuntime) -> Result<(), Fail> {
         (1, 1022, true),
         (1, 1023, false),
     ] {
-        for cut in [7, 4096] {
-            let head = head_of(&rt, host, path)?;
-            let alloc = rt.alloc();
-            let mut link = MemoryLink::new(alloc, head.as_slice(), 0, cut, [].as_slice())
-                .ok()
-                .ok_or("memory")?;
-            let mut buf = HeadBuf::new(alloc).ok().ok_or("memory")?;
-            let got = read_request(alloc, &mut link, &mut buf);
-            assert_eq!(rt; short(&got) != b"bad".as_slice(), read, "{host} and {path}");
-        }
+        let head = head_of(&rt, host, path)?;
+        let (got, _) = reading(&rt, head.as_slice(), 7, [].as_slice())?;
+        assert_eq!(rt; short(&got) != b"bad".as_slice(), read, "{host} and {path}");
     }
     Ok(())
 }
 
 #[test]
-fn a_head_that_breaks_off_has_ended_and_a_fault_is_the_clients(
+fn a_front_of_a_head_has_ended_and_a_failed_call_is_the_clients(
     rt: HostRuntime,
 ) -> Result<(), Fail> {
     let whole = b"GET http://h.a/b-c/d HTTP/1.1\r\n\r\n";
     for len in 0..whole.len() {
-        for (cut, fail, want) in [
-            (1, 99, "ended"),
-            (9, 99, "ended"),
-            (1, 0, "fault"),
-            (1, len as u64, "fault"),
-        ] {
-            let alloc = rt.alloc();
-            let mut link = MemoryLink::new(alloc, &whole[..len], 0, cut, [fail].as_slice())
-                .ok()
-                .ok_or("memory")?;
-            let mut buf = HeadBuf::new(alloc).ok().ok_or("memory")?;
-            let got = read_request(alloc, &mut link, &mut buf);
+        for (fail, want) in [(99, "ended"), (0, "fault"), (len as u64, "fault")] {
+            let (got, _) = reading(&rt, &whole[..len], 1, [fail].as_slice())?;
             assert_eq!(rt; short(&got), want.as_bytes(), "{len} bytes, call {fail}");
         }
     }
