@@ -55,7 +55,7 @@ module _ (n : ℕ) (len : Option ℕ) (note : Note) (old mid new : Option (List 
       let size = length-append (file_text len) (p.body ++ p.left.body) in
       let body_size = length-append p.body p.left.body in
       let front : take (length (file_text len) + sent) (file_text len ++ (p.body ++ p.left.body)) ≡ file_text len ++ take sent p.body =
-        take-append-add (file_text len) (p.body ++ p.left.body) sent ∙ ap (λ t. file_text len ++ t) (take-append-le sent p.body p.left.body few) in
+      take-append-add (file_text len) (p.body ++ p.left.body) sent ∙ ap (λ t. file_text len ++ t) (take-append-le sent p.body p.left.body few) in
       subst Q (sym p.reads) (record {
         status = told.status;
         label = told.label;

@@ -39,14 +39,14 @@ module _ (n : ℕ) (r : Reading) (h : AnswerOf) (note : Note) (old new : Option 
 
   wrote_all : WroteAll (passed n len r.body r.outcome) note old new → SendsFrontOf file note old new
   wrote_all w = record {
-      head = text;
-      body = r.body;
-      written = w.bytes;
-      is_head = (len, take_all (length text) text (omega arith));
-      sent = w.sent;
-      front = front;
-      whole = λ e. all (only_whole r.outcome (sym w.whole ∙ e));
-    }
+    head = text;
+    body = r.body;
+    written = w.bytes;
+    is_head = (len, take_all (length text) text (omega arith));
+    sent = w.sent;
+    front = front;
+    whole = λ e. all (only_whole r.outcome (sym w.whole ∙ e));
+  }
 
   wrote_front : (before after : ℕ) → WroteFront (passed n len r.body r.outcome) note old new before after → SendsFrontOf file note old new
   wrote_front before after w =

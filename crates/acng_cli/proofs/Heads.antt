@@ -22,7 +22,7 @@ pub one_url : (text : List ℕ) (host path rest host' path' rest' : List ℕ) �
 one_url text host path rest host' path' rest' h k =
     let both = sym (after_start text host path rest h) ∙ after_start text host' path' rest' k in
     let same = cut_unique 32 (host ++ 47 ∷ path) (behind ++ rest) (host' ++ 47 ∷ path') (behind ++ rest')
-      (target_lacks_blank (host ++ 47 ∷ path) (lawful host path h.form)) (target_lacks_blank (host' ++ 47 ∷ path') (lawful host' path' k.form)) both in
+    (target_lacks_blank (host ++ 47 ∷ path) (lawful host path h.form)) (target_lacks_blank (host' ++ 47 ∷ path') (lawful host' path' k.form)) both in
     ap (λ t. codes "http://" ++ t) same.0
 
 -- and a URL names one host and one path

@@ -25,11 +25,11 @@ module _ (told : Type 0) (first now : Reading) (sent : ℕ) (old mid : Option (L
   pub piece_sent : (piece : List ℕ) (next : Reading) (count : ℕ) (new : Option (List ℕ)) → (told → now ≡ after_body piece next) → count ≡ length piece → Appends mid new (take count piece)
       → IsPassed told first next (sent + count) old new
   piece_sent piece next count new h all b = record {
-      body = p.body ++ piece;
-      reads = λ t. p.reads t ∙ ap (after_body p.body) (h t) ∙ regroup p.body piece next;
-      sent_is = let size = length-append p.body piece in let had = p.sent_is in omega arith;
-      bytes = Appends-trans old mid new p.body piece p.bytes (subst (Appends mid new) (take_all count piece (omega arith)) b);
-    }
+    body = p.body ++ piece;
+    reads = λ t. p.reads t ∙ ap (after_body p.body) (h t) ∙ regroup p.body piece next;
+    sent_is = let size = length-append p.body piece in let had = p.sent_is in omega arith;
+    bytes = Appends-trans old mid new p.body piece p.bytes (subst (Appends mid new) (take_all count piece (omega arith)) b);
+  }
 
   -- the link failed in a piece
   pub piece_broken : (piece : List ℕ) (next : Reading) (count : ℕ) (new : Option (List ℕ)) (before after : ℕ) → (told → now ≡ after_body piece next) → count ≤ length piece → Appends mid new (take count piece)
@@ -37,15 +37,18 @@ module _ (told : Type 0) (first now : Reading) (sent : ℕ) (old mid : Option (L
   piece_broken piece next count new before after h few b rose =
       let had = p.sent_is in
       let size = length-append p.body piece in
-      let front : take (sent + count) (p.body ++ piece) ≡ p.body ++ take count piece = ap (λ k. take (k + count) (p.body ++ piece)) had ∙ take-append-add p.body piece count in
-      (after_body (p.body ++ piece) next, λ t. p.reads t ∙ ap (after_body p.body) (h t) ∙ regroup p.body piece next, record {
-        body = p.body ++ piece;
-        left = next;
-        reads = refl;
-        few = omega arith;
-        bytes = subst (Appends old new) (sym front) (Appends-trans old mid new p.body (take count piece) p.bytes b);
-        rose = rose;
-      })
+      let front : take (sent + count) (p.body ++ piece) ≡ p.body ++ take count piece = ap (λ k. take (k + count) (p.body ++ piece)) had ∙ take-append-add p.body piece count in (
+        after_body (p.body ++ piece) next,
+        λ t. p.reads t ∙ ap (after_body p.body) (h t) ∙ regroup p.body piece next,
+        record {
+          body = p.body ++ piece;
+          left = next;
+          reads = refl;
+          few = omega arith;
+          bytes = subst (Appends old new) (sym front) (Appends-trans old mid new p.body (take count piece) p.bytes b);
+          rose = rose;
+        },
+      )
 
   -- the answer ended
   pub all_sent : (end : End) → (told → now ≡ nothing (outcome_of end)) → (r : Reading) × (told → first ≡ r) × PassesAll r sent end old mid

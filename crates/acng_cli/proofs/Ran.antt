@@ -41,16 +41,16 @@ module _ (tells : Bool) (sent : ℕ → Ask → List ℕ) (faulted : ℕ → Ask
 
   pub ran_hindered : IsHindered once old new → Ran
   ran_hindered h = record {
-      breaks_off = if_all (λ b. MayBecomeHead b → EndsUnread once old new ⊎ IsHindered once old new) (λ b m. inr h) left;
-      bad_head = if_all (λ b. NeverHead b → RefusesHead once old new ⊎ IsHindered once old new) (λ b m. inr h) left;
-      asked = if_all _ (λ b host path rest k. (answer_of sent faulted old.next (url_of host path), λ t. refl, inr h)) left;
-      ended_only = λ e. absurd (hindered_stop h e);
-      refused_only = λ note noted s. let is = hindered_status h note noted in absurd (omega arith);
-      answered_only = λ note noted s. absurd (neither note s (hindered_status h note noted));
-      any = inr (inr (inr h));
-      later = later;
-      headline = λ t k u note noted s. let is = hindered_status h note noted in absurd (omega arith);
-    }
+    breaks_off = if_all (λ b. MayBecomeHead b → EndsUnread once old new ⊎ IsHindered once old new) (λ b m. inr h) left;
+    bad_head = if_all (λ b. NeverHead b → RefusesHead once old new ⊎ IsHindered once old new) (λ b m. inr h) left;
+    asked = if_all _ (λ b host path rest k. (answer_of sent faulted old.next (url_of host path), λ t. refl, inr h)) left;
+    ended_only = λ e. absurd (hindered_stop h e);
+    refused_only = λ note noted s. let is = hindered_status h note noted in absurd (omega arith);
+    answered_only = λ note noted s. absurd (neither note s (hindered_status h note noted));
+    any = inr (inr (inr h));
+    later = later;
+    headline = λ t k u note noted s. let is = hindered_status h note noted in absurd (omega arith);
+  }
     where
       neither : (note : Note) → (note.status ≡ 200) ⊎ (note.status ≡ 502) → note.status ≡ 507 → ⊥
       neither note (inl s) is = omega arith
@@ -59,30 +59,30 @@ module _ (tells : Bool) (sent : ℕ → Ask → List ℕ) (faulted : ℕ → Ask
   -- the client's link ended inside a head
   pub ran_ended : EndsUnread once old new → IfSome left MayBecomeHead → IfSome left (λ b. BeginsHead b → ⊥) → IfSome left (λ b. NeverHead b → ⊥) → Ran
   ran_ended e ended whole never = record {
-      breaks_off = if_all (λ b. MayBecomeHead b → EndsUnread once old new ⊎ IsHindered once old new) (λ b m. inl e) left;
-      bad_head = if_also (λ b. NeverHead b → ⊥) (λ b. NeverHead b → RefusesHead once old new ⊎ IsHindered once old new) (λ b n h. absurd (n h)) left never;
-      asked = if_also (λ b. BeginsHead b → ⊥) _ (λ b n host path rest h. absurd (n (host, path, rest, h))) left whole;
-      ended_only = λ s. ended;
-      refused_only = λ note noted s. let none = e.noted in cc;
-      answered_only = λ note noted s. let none = e.noted in cc;
-      any = inl e;
-      later = later;
-      headline = λ t k u note noted s. let none = e.noted in cc;
-    }
+    breaks_off = if_all (λ b. MayBecomeHead b → EndsUnread once old new ⊎ IsHindered once old new) (λ b m. inl e) left;
+    bad_head = if_also (λ b. NeverHead b → ⊥) (λ b. NeverHead b → RefusesHead once old new ⊎ IsHindered once old new) (λ b n h. absurd (n h)) left never;
+    asked = if_also (λ b. BeginsHead b → ⊥) _ (λ b n host path rest h. absurd (n (host, path, rest, h))) left whole;
+    ended_only = λ s. ended;
+    refused_only = λ note noted s. let none = e.noted in cc;
+    answered_only = λ note noted s. let none = e.noted in cc;
+    any = inl e;
+    later = later;
+    headline = λ t k u note noted s. let none = e.noted in cc;
+  }
 
   -- the head was refused
   pub ran_refused : RefusesHead once old new → IfSome left NeverHead → IfSome left (λ b. BeginsHead b → ⊥) → IfSome left (λ b. MayBecomeHead b → ⊥) → Ran
   ran_refused r never whole breaks = record {
-      breaks_off = if_also (λ b. MayBecomeHead b → ⊥) (λ b. MayBecomeHead b → EndsUnread once old new ⊎ IsHindered once old new) (λ b n h. absurd (n h)) left breaks;
-      bad_head = if_all (λ b. NeverHead b → RefusesHead once old new ⊎ IsHindered once old new) (λ b m. inl r) left;
-      asked = if_also (λ b. BeginsHead b → ⊥) _ (λ b n host path rest h. absurd (n (host, path, rest, h))) left whole;
-      ended_only = λ s. let is = r.replies.stop in cc;
-      refused_only = λ note noted s. never;
-      answered_only = λ note noted s. absurd (neither note s (status_is _ r.replies note noted));
-      any = inr (inl r);
-      later = later;
-      headline = λ t k u note noted s. let is = status_is _ r.replies note noted in absurd (omega arith);
-    }
+    breaks_off = if_also (λ b. MayBecomeHead b → ⊥) (λ b. MayBecomeHead b → EndsUnread once old new ⊎ IsHindered once old new) (λ b n h. absurd (n h)) left breaks;
+    bad_head = if_all (λ b. NeverHead b → RefusesHead once old new ⊎ IsHindered once old new) (λ b m. inl r) left;
+    asked = if_also (λ b. BeginsHead b → ⊥) _ (λ b n host path rest h. absurd (n (host, path, rest, h))) left whole;
+    ended_only = λ s. let is = r.replies.stop in cc;
+    refused_only = λ note noted s. never;
+    answered_only = λ note noted s. absurd (neither note s (status_is _ r.replies note noted));
+    any = inr (inl r);
+    later = later;
+    headline = λ t k u note noted s. let is = status_is _ r.replies note noted in absurd (omega arith);
+  }
     where
       neither : (note : Note) → (note.status ≡ 200) ⊎ (note.status ≡ 502) → note.status ≡ 400 → ⊥
       neither note (inl s) is = omega arith
@@ -115,23 +115,23 @@ module _ (tells : Bool) (sent : ℕ → Ask → List ℕ) (faulted : ℕ → Ask
           form = form;
           asked = asked;
           sends = sends_front old.next answer note old.written new.written old.faults new.faults (instance old.next (file_of host path))
-            (honest.answers old.next (ask_of url) (file_of host path) (all host path form)) (head_taken (sent old.next (ask_of url)) _ _)
-            (subst (λ k. Sends (reply_to old.next answer) k old.written new.written old.faults new.faults) same sends) ok;
+              (honest.answers old.next (ask_of url) (file_of host path) (all host path form)) (head_taken (sent old.next (ask_of url)) _ _)
+              (subst (λ k. Sends (reply_to old.next answer) k old.written new.written old.faults new.faults) same sends) ok;
         }
 
     pub ran_answered : Ran
     ran_answered = record {
-        breaks_off = if_also (λ b. MayBecomeHead b → ⊥) (λ b. MayBecomeHead b → EndsUnread once old new ⊎ IsHindered once old new) (λ b n h. absurd (n h)) left breaks;
-        bad_head = if_also (λ b. NeverHead b → ⊥) (λ b. NeverHead b → RefusesHead once old new ⊎ IsHindered once old new) (λ b n h. absurd (n h)) left never;
-        asked = if_also (λ b. (rest : List ℕ) × HasHead b host path rest) _
+      breaks_off = if_also (λ b. MayBecomeHead b → ⊥) (λ b. MayBecomeHead b → EndsUnread once old new ⊎ IsHindered once old new) (λ b n h. absurd (n h)) left breaks;
+      bad_head = if_also (λ b. NeverHead b → ⊥) (λ b. NeverHead b → RefusesHead once old new ⊎ IsHindered once old new) (λ b n h. absurd (n h)) left never;
+      asked = if_also (λ b. (rest : List ℕ) × HasHead b host path rest) _
           (λ b k host' path' rest' h. (r, λ t. told t ∙ ap (answer_of sent faulted old.next) (one_url b host path k.0 host' path' rest' k.1 h), inl a)) left asked;
-        ended_only = λ s. let is = a.replies.stop in cc;
-        refused_only = λ note noted s. absurd (not_400 note noted s);
-        answered_only = λ note noted s. if_also (λ b. (rest : List ℕ) × HasHead b host path rest) BeginsHead (λ b k. (host, path, k.0, k.1)) left asked;
-        any = inr (inr (inl (r, a)));
-        later = later;
-        headline = sends_file;
-      }
+      ended_only = λ s. let is = a.replies.stop in cc;
+      refused_only = λ note noted s. absurd (not_400 note noted s);
+      answered_only = λ note noted s. if_also (λ b. (rest : List ℕ) × HasHead b host path rest) BeginsHead (λ b k. (host, path, k.0, k.1)) left asked;
+      any = inr (inr (inl (r, a)));
+      later = later;
+      headline = sends_file;
+    }
 
   -- an attempt was made, or memory was refused in it
   pub ran_attempt : (host path : List ℕ) → IsFirstForm host path → IfSome left (λ b. (rest : List ℕ) × HasHead b host path rest)

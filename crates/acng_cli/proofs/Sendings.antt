@@ -16,12 +16,12 @@ module _ (head body : List ℕ) (old new : Option (List ℕ)) where
   -- the link failed in the head
   pub in_head : (n : ℕ) (all : Bool) → n ≤ length head → all ≡ false → Appends old new (take n head) → SendsBoth head body 0 all old new
   in_head n all few failed h = record {
-      count = n;
-      few = let size = length-append head body in omega arith;
-      sent_is = omega arith;
-      bytes = subst (Appends old new) (sym (take-append-le n head body few)) h;
-      whole = λ e. cc;
-    }
+    count = n;
+    few = let size = length-append head body in omega arith;
+    sent_is = omega arith;
+    bytes = subst (Appends old new) (sym (take-append-le n head body few)) h;
+    whole = λ e. cc;
+  }
 
   -- the head went out, and n bytes of the body
   pub in_body : (mid : Option (List ℕ)) (k n : ℕ) (all : Bool) → k ≡ length head → n ≤ length body → (all ≡ true → n ≡ length body)
@@ -60,22 +60,22 @@ pub sent_all : (reply : Reply) (note : Note) (old new : Option (List ℕ)) (befo
     → note.status ≡ reply.status → note.label ≡ reply.label → note.cause ≡ reply.cause → note.whole ≡ reply.whole
     → (all : Bool) → all ≡ true → SendsBoth head body note.sent all old new → Sends reply note old new before after
 sent_all reply note old new before after head body of status label cause whole all is s = record {
-    status = status;
-    label = label;
-    written = inl (
+  status = status;
+  label = label;
+  written = inl (
       let count = s.whole is in
       let size = length-append head body in
       let sent = s.sent_is in
       let body_size = ap length of.1 in
       let joined : take s.count (head ++ body) ≡ reply.head ++ reply.body =
-        take_all s.count (head ++ body) (omega arith) ∙ ap (λ t. t ++ body) of.0 ∙ ap (λ t. reply.head ++ t) of.1 in
+      take_all s.count (head ++ body) (omega arith) ∙ ap (λ t. t ++ body) of.0 ∙ ap (λ t. reply.head ++ t) of.1 in
       record {
         cause = cause;
         sent = omega arith;
         whole = whole;
         bytes = subst (Appends old new) joined s.bytes;
       });
-  }
+}
 
 -- the link failed
 pub sent_front : (reply : Reply) (note : Note) (old new : Option (List ℕ)) (before after : ℕ) (head body : List ℕ) → IsOf reply head body

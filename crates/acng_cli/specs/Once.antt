@@ -103,7 +103,7 @@ pub record RanOnce (tells : Bool) (sent : ℕ → Ask → List ℕ) (faulted : �
   pub breaks_off : IfSome left (λ bytes. MayBecomeHead bytes → EndsUnread once old new ⊎ IsHindered once old new)
   pub bad_head : IfSome left (λ bytes. NeverHead bytes → RefusesHead once old new ⊎ IsHindered once old new)
   pub asked : IfSome left (λ bytes. (host path rest : List ℕ) → HasHead bytes host path rest →
-    (r : Reading) × (tells ≡ true → r ≡ answer_of sent faulted old.next (url_of host path)) × (AnswersAs r once old new ⊎ IsHindered once old new))
+      (r : Reading) × (tells ≡ true → r ≡ answer_of sent faulted old.next (url_of host path)) × (AnswersAs r once old new ⊎ IsHindered once old new))
   -- and only there
   pub ended_only : once.stop ≡ stop.ClientEnded → IfSome left MayBecomeHead
   pub refused_only : (note : Note) → once.note ≡ Some note → note.status ≡ 400 → IfSome left NeverHead
@@ -113,4 +113,4 @@ pub record RanOnce (tells : Bool) (sent : ℕ → Ask → List ℕ) (faulted : �
   pub later : old.faults ≤ new.faults
   -- the headline: a file's reply is a front of the file as the attempt found it, all of it where the note is whole
   pub headline : tells ≡ true → IsHonest sent faulted serves instance → ServesRequests serves
-    → (note : Note) → once.note ≡ Some note → note.status ≡ 200 → SendsFileOf instance left note old new
+      → (note : Note) → once.note ≡ Some note → note.status ≡ 200 → SendsFileOf instance left note old new

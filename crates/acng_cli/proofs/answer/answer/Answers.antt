@@ -16,10 +16,11 @@ returns-in-Fault-clause-replies g c =
     let F = g.L.Link.faults in
     let n = c.args.attempt.number in
     let a = ask_of c.args.url in
-    let answer = c.in-Fault.ensures.answer in
-    (nothing Open,
-     λ told. sym (ap (λ t. reading t (not (g.S.Site.faulted n a)) answer_limit) (answer.2 told).1 ∙ ap (λ b. reading [] (not b) answer_limit) (answer.2 told).0),
-     inl (subst (λ k. Sends (refused (Load (Origin k))) c.refuse-in-Fault.result (W c.args.client.now) (W c.refuse-in-Fault.new.client) (F c.args.client.now) (F c.refuse-in-Fault.new.client)) c.number-number.ensures c.refuse-in-Fault.ensures.sends))
+    let answer = c.in-Fault.ensures.answer in (
+      nothing Open,
+      λ told. sym (ap (λ t. reading t (not (g.S.Site.faulted n a)) answer_limit) (answer.2 told).1 ∙ ap (λ b. reading [] (not b) answer_limit) (answer.2 told).0),
+      inl (subst (λ k. Sends (refused (Load (Origin k))) c.refuse-in-Fault.result (W c.args.client.now) (W c.refuse-in-Fault.new.client) (F c.args.client.now) (F c.refuse-in-Fault.new.client)) c.number-number.ensures c.refuse-in-Fault.ensures.sends),
+    )
 
 pub returns-clause-replies : goal.returns-clause-replies
 returns-clause-replies g c = (answer_of g.S.Site.sent g.S.Site.faulted c.args.attempt.number c.args.url, λ told. refl, inr c.refuse-in-NoMemory.ensures.sends)

@@ -18,9 +18,9 @@ returns-then-is_err-clause-passes g c =
     let faulted = g.C.Conn.faulted in
     let rose = on_err sent.result.1 (Rose (F s.client) (F sent.new.link)) sent.ensures.cause.failed (sym c.is_err.ensures.value ∙ c.if-is_err.true) in
     piece_broken (g.C.Conn.tells ≡ true) (left_of (faulted c.args.conn.now) c.args.reader.now c.args.buf.now c.args.pending.now (left c.args.conn.now))
-      (left_of (faulted s.conn) s.reader s.buf s.pending (left s.conn)) s.sent (W c.args.client.now) (W s.client) s.invariant.passed
-      (slice_range e.buf c.in-Body.start c.in-Body.stop) (left_of (faulted e.conn) e.reader e.buf e.pending (left e.conn)) sent.result.0 (W sent.new.link) (F c.args.client.now) (F sent.new.link)
-      c.in-Body.ensures.event sent.ensures.within sent.ensures.bytes (rose_since (F c.args.client.now) (F s.client) (F sent.new.link) s.invariant.faults rose)
+    (left_of (faulted s.conn) s.reader s.buf s.pending (left s.conn)) s.sent (W c.args.client.now) (W s.client) s.invariant.passed
+    (slice_range e.buf c.in-Body.start c.in-Body.stop) (left_of (faulted e.conn) e.reader e.buf e.pending (left e.conn)) sent.result.0 (W sent.new.link) (F c.args.client.now) (F sent.new.link)
+    c.in-Body.ensures.event sent.ensures.within sent.ensures.bytes (rose_since (F c.args.client.now) (F s.client) (F sent.new.link) s.invariant.faults rose)
 
 pub loop-start-smaller : goal.loop-start-smaller
 loop-start-smaller g c = let part = c.in-Body.ensures.part in omega (arith, part.0, part.2)
@@ -50,9 +50,9 @@ loop-start-preserved g c =
       counted = omega arith;
       head = subst IsSome (sym c.in-Body.ensures.order.1) c.in-Body.ensures.order.0;
       passed = piece_sent (g.C.Conn.tells ≡ true) (left_of (faulted c.args.conn.now) c.args.reader.now c.args.buf.now c.args.pending.now (left c.args.conn.now))
-        (left_of (faulted s.conn) s.reader s.buf s.pending (left s.conn)) s.sent (W c.args.client.now) (W s.client) s.invariant.passed
-        (slice_range e.buf c.in-Body.start c.in-Body.stop) (left_of (faulted e.conn) e.reader e.buf e.pending (left e.conn)) sent.result.0 (W sent.new.link)
-        c.in-Body.ensures.event whole sent.ensures.bytes;
+          (left_of (faulted s.conn) s.reader s.buf s.pending (left s.conn)) s.sent (W c.args.client.now) (W s.client) s.invariant.passed
+          (slice_range e.buf c.in-Body.start c.in-Body.stop) (left_of (faulted e.conn) e.reader e.buf e.pending (left e.conn)) sent.result.0 (W sent.new.link)
+          c.in-Body.ensures.event whole sent.ensures.bytes;
       faults = omega (arith, s.invariant.faults, sent.ensures.cause.later);
       left = Keeps-trans (g.L.Link.left c.args.client.now) (g.L.Link.left s.client) (g.L.Link.left sent.new.link) s.invariant.left sent.ensures.others;
     }
@@ -64,4 +64,4 @@ returns-in-Ended-clause-passes g c =
     let left = g.C.Conn.left in
     let faulted = g.C.Conn.faulted in
     all_sent (g.C.Conn.tells ≡ true) (left_of (faulted c.args.conn.now) c.args.reader.now c.args.buf.now c.args.pending.now (left c.args.conn.now))
-      (left_of (faulted s.conn) s.reader s.buf s.pending (left s.conn)) s.sent (W c.args.client.now) (W s.client) s.invariant.passed c.in-Ended.end c.in-Ended.ensures.event
+    (left_of (faulted s.conn) s.reader s.buf s.pending (left s.conn)) s.sent (W c.args.client.now) (W s.client) s.invariant.passed c.in-Ended.end c.in-Ended.ensures.event
