@@ -1,0 +1,27 @@
+//! What the cache says of a file.
+use acng_base::{CachePath, Hash, Moment, Tag};
+
+/// Where a file came from.
+#[derive(Debug, Drop)]
+pub enum Label {
+    /// Downloads, of which the first and the last attempt are named.
+    Fetched { first: u64, last: u64 },
+    /// An import of so many bytes with this hash.
+    Imported { sha256: Hash, size: u64 },
+}
+
+/// What the cache says of a file.
+#[derive(Debug, Drop)]
+pub struct Head {
+    pub path: CachePath,
+    pub label: Label,
+    /// The bytes of the file.
+    pub size: u64,
+    pub tag: Option<Tag>,
+    /// When the origin says that the file was changed.
+    pub modified: Option<Moment>,
+    /// When the file was last known to be the origin's.
+    pub checked: Moment,
+    /// When the file was first found to be named by no index.
+    pub mark: Option<Moment>,
+}
