@@ -1,12 +1,12 @@
 -- A text cut at the first byte of a kind: there is one such cut.
-use Rattle.std.proofs.Common.{◌≡◌, ◌≢◌, ℕ, zero, suc, ◌+◌, ◌<◌, ◌==◌, eqb, Bool, true, false, List, [], ◌∷◌, ◌++◌, Some, None, Option, cond, length, get_or, take, drop, refl, sym, ap, ◌∙◌, drop-cons, add-one, arith}
+use Rattle.std.proofs.Common.{◌≡◌, ◌≢◌, ℕ, zero, suc, ◌+◌, ◌<◌, ◌==◌, eqb, Bool, true, false, List, [], ◌∷◌, ◌++◌, Some, None, Option, cond, length, get_or, take, drop, refl, sym, ap, ◌∙◌, drop-cons, arith}
 use Rattle.std.specs.List.{position, position_from}
 use Rattle.std.proofs.lemmas.Bool.{eqb-true}
 use Rattle.std.proofs.lemmas.List.{take-append-drop}
 use Rattle.std.proofs.lemmas.List.Quantifiers.{position-Some}
 use Rattle.std.proofs.lemmas.Iterator.Adapters.{position_from-zero}
 use Rattle.std.specs.Option.{MatchOption}
-use Rattle.acng_head.specs.Records.{Lacks, line, maybe}
+use Rattle.acng_head.specs.Records.{Lacks, line}
 
 pub cut_same : (byte : ℕ) (v w r s : List ℕ) → Lacks byte v → Lacks byte w → v ++ byte ∷ r ≡ w ++ byte ∷ s → (v ≡ w) × (r ≡ s)
 cut_same byte [] [] r s hv hw e = (refl, cc)

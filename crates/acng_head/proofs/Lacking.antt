@@ -1,11 +1,11 @@
 -- The values of a head lie inside their lines: none has a line feed.
-use Rattle.std.proofs.Common.{◌≡◌, ◌≢◌, ℕ, zero, suc, ◌+◌, ◌-◌, ◌*◌, ◌/◌, ◌%◌, ◌^◌, ◌<◌, ◌≤◌, ◌==◌, eqb, leb, Bool, true, false, not, List, [], ◌∷◌, ◌++◌, Option, Some, None, cond, decimal, codes, length, get_or, take, drop, refl, sym, ap, ◌∙◌, subst, arith}
+use Rattle.std.proofs.Common.{◌≡◌, ◌≢◌, ℕ, zero, suc, ◌+◌, ◌-◌, ◌/◌, ◌%◌, ◌^◌, ◌<◌, ◌≤◌, ◌==◌, Bool, true, false, not, List, [], ◌∷◌, ◌++◌, Option, Some, None, cond, decimal, codes, length, get_or, take, refl, sym, ap, ◌∙◌, subst, arith}
 use Rattle.std.specs.List.{list_all, position, position_from}
 use Rattle.std.specs.Option.{IfSome, option_or, option_map}
 use Rattle.std.proofs.lemmas.Bool.{and_parts, eqb-true, leb-true, false≢true}
 use Rattle.std.proofs.lemmas.Iterator.Adapters.{position_from-zero}
 use Rattle.hex.specs.Hex.{encode_with, encode_lower, lower_digits}
-use Rattle.acng_base.specs.Paths.{path_refusal, is_path_byte, first_bad, segments}
+use Rattle.acng_base.specs.Paths.{path_refusal, is_path_byte}
 use Rattle.acng_base.specs.Tags.{is_tag, is_tag_byte}
 use Rattle.acng_base.specs.declared.clock.Moment.{Moment}
 use Rattle.acng_head.specs.declared.head.Head.{Head}
@@ -117,7 +117,7 @@ unfolding values_of
 are_values h is = record {
   path = Lacks-path h.path is.typed.path;
   origin = Lacks-origin h.size h.label is.bounded.label;
-  bytes = Lacks-decimal 10 h.size (omega arith) (omega (arith, is.bounded.bytes));
+  size = Lacks-decimal 10 h.size (omega arith) (omega (arith, is.bounded.size));
   tag = Lacks-some_tag h.tag is.typed.tag;
   modified = Lacks-moment h.modified (below h.modified is.bounded.modified);
   checked = Lacks-decimal 10 h.checked.0 (omega arith) is.typed.checked;

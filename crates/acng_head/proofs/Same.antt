@@ -1,5 +1,5 @@
 -- A record has one spelling: what was written of two heads is the same only where the heads are.
-use Rattle.std.proofs.Common.{◌≡◌, ◌≢◌, ℕ, ◌^◌, ◌<◌, ◌≤◌, List, [], ◌∷◌, ◌++◌, Option, Some, None, Ok, decimal, codes, refl, sym, ap, ◌∙◌, subst, arith}
+use Rattle.std.proofs.Common.{◌≡◌, ◌≢◌, ℕ, ◌^◌, ◌<◌, List, Option, Some, None, decimal, codes, refl, sym, ap, ◌∙◌, subst, arith}
 use Rattle.std.specs.Option.{IfSome, MatchOption}
 use Rattle.acng_base.specs.Paths.{path_refusal}
 use Rattle.std.proofs.lemmas.Fmt.{decimal_injective}
@@ -10,7 +10,7 @@ use Rattle.acng_base.specs.declared.hash.Hash.{Hash}
 use Rattle.acng_head.specs.declared.head.Head.{Head}
 use Rattle.acng_head.specs.declared.head.Label.{Label}
 use Rattle.acng_head.specs.declared.head.Label.TheVariants.{Fetched, Imported}
-use Rattle.acng_head.specs.Records.{Values, AreValues, Lacks, line, maybe, text_of, values_of, record_text, origin_text, moment_text, IsHash, IsTypedLabel, IsBoundedLabel, IsHead}
+use Rattle.acng_head.specs.Records.{Values, AreValues, text_of, values_of, record_text, origin_text, moment_text, IsHash, IsTypedLabel, IsBoundedLabel, IsHead}
 use Rattle.acng_head.proofs.Cuts.{cut_same, front_same}
 use Rattle.acng_head.proofs.Lacking.{are_values, below}
 use Rattle.acng_head.proofs.Numbers.{Lacks-decimal}
@@ -52,7 +52,7 @@ label_same bytes (Imported x s) (Imported y t) tl tm bl bm e =
 pub heads_same : (g h : Head) → IsHead g → IsHead h → values_of g ≡ values_of h → g ≡ h
 unfolding values_of
 heads_same g h ig ih e =
-    let size : g.size ≡ h.size = decimal_injective g.size h.size (omega (arith, ig.bounded.bytes)) (omega (arith, ih.bounded.bytes)) (ap (λ v. v.bytes) e) in
+    let size : g.size ≡ h.size = decimal_injective g.size h.size (omega (arith, ig.bounded.size)) (omega (arith, ih.bounded.size)) (ap (λ v. v.size) e) in
     let bounded : IsBoundedLabel h.size g.label = subst (λ n. IsBoundedLabel n g.label) size ig.bounded.label in
     let label = label_same h.size g.label h.label ig.typed.label ih.typed.label bounded ih.bounded.label (ap (λ v. v.origin) e) in
     let modified = moment_same g.modified h.modified (below g.modified ig.bounded.modified) (below h.modified ih.bounded.modified) (ap (λ v. v.modified) e) in

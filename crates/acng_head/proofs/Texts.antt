@@ -22,7 +22,7 @@ abbrev pub from_tag : Values → List ℕ
 from_tag v = maybe (codes "tag ") v.tag (from_modified v)
 
 abbrev pub from_size : Values → List ℕ
-from_size v = line (codes "size ") v.bytes (from_tag v)
+from_size v = line (codes "size ") v.size (from_tag v)
 
 abbrev pub from_origin : Values → List ℕ
 from_origin v = line (codes "origin ") v.origin (from_size v)
@@ -62,8 +62,8 @@ module _ (v : Values) (h : AreValues v) (t : List ℕ) where
   pub to_size : (p r : List ℕ) → from_origin v ≡ t → Lacks 10 p × (t ≡ line (codes "origin ") p r) → (v.origin ≡ p) × (from_size v ≡ r)
   to_size p r e f = line_next (codes "origin ") v.origin p (from_size v) r t h.origin e f
 
-  pub to_tag : (p r : List ℕ) → from_size v ≡ t → Lacks 10 p × (t ≡ line (codes "size ") p r) → (v.bytes ≡ p) × (from_tag v ≡ r)
-  to_tag p r e f = line_next (codes "size ") v.bytes p (from_tag v) r t h.bytes e f
+  pub to_tag : (p r : List ℕ) → from_size v ≡ t → Lacks 10 p × (t ≡ line (codes "size ") p r) → (v.size ≡ p) × (from_tag v ≡ r)
+  to_tag p r e f = line_next (codes "size ") v.size p (from_tag v) r t h.size e f
 
   pub to_mark : (p r : List ℕ) → from_checked v ≡ t → Lacks 10 p × (t ≡ line (codes "checked ") p r) → (v.checked ≡ p) × (from_mark v ≡ r)
   to_mark p r e f = line_next (codes "checked ") v.checked p (from_mark v) r t h.checked e f
@@ -85,12 +85,12 @@ module _ (v : Values) (h : AreValues v) (t : List ℕ) where
   to_end o r e l f missing = maybe_next (codes "mark ") v.mark o from_end r t h.mark (λ w rest e. apart 101 109 _ _ e refl) e l f missing
 
 -- the values of lines are the same where each is
-pub values_same : (v w : Values) → v.path ≡ w.path → v.origin ≡ w.origin → v.bytes ≡ w.bytes → v.tag ≡ w.tag → v.modified ≡ w.modified → v.checked ≡ w.checked → v.mark ≡ w.mark → v ≡ w
-values_same v w e1 e2 e3 e4 e5 e6 e7 = all v.path w.path v.origin w.origin v.bytes w.bytes v.tag w.tag v.modified w.modified v.checked w.checked v.mark w.mark e1 e2 e3 e4 e5 e6 e7
+pub values_same : (v w : Values) → v.path ≡ w.path → v.origin ≡ w.origin → v.size ≡ w.size → v.tag ≡ w.tag → v.modified ≡ w.modified → v.checked ≡ w.checked → v.mark ≡ w.mark → v ≡ w
+values_same v w e1 e2 e3 e4 e5 e6 e7 = all v.path w.path v.origin w.origin v.size w.size v.tag w.tag v.modified w.modified v.checked w.checked v.mark w.mark e1 e2 e3 e4 e5 e6 e7
   where
     all : (p p' o o' s s' : List ℕ) (t t' d d' : Option (List ℕ)) (c c' : List ℕ) (m m' : Option (List ℕ))
         → p ≡ p' → o ≡ o' → s ≡ s' → t ≡ t' → d ≡ d' → c ≡ c' → m ≡ m'
-        → ◌≡◌ {A = Values} (record { path = p; origin = o; bytes = s; tag = t; modified = d; checked = c; mark = m }) (record { path = p'; origin = o'; bytes = s'; tag = t'; modified = d'; checked = c'; mark = m' })
+        → ◌≡◌ {A = Values} (record { path = p; origin = o; size = s; tag = t; modified = d; checked = c; mark = m }) (record { path = p'; origin = o'; size = s'; tag = t'; modified = d'; checked = c'; mark = m' })
     all p p' o o' s s' t t' d d' c c' m m' e1 e2 e3 e4 e5 e6 e7 = cc
 
 -- a line that may be missing, in two texts
@@ -108,7 +108,7 @@ texts_same v w hv hw e =
     let e0 = to_path v _ _ e (text_is w) in
     let e1 = to_origin v hv _ _ _ e0 (hw.path, refl) in
     let e2 = to_size v hv _ _ _ e1.1 (hw.origin, refl) in
-    let e3 = to_tag v hv _ _ _ e2.1 (hw.bytes, refl) in
+    let e3 = to_tag v hv _ _ _ e2.1 (hw.size, refl) in
     let e4 = maybe_same (codes "tag ") v.tag w.tag _ _ hv.tag hw.tag (no_tag v hv [] v.modified) (no_tag w hw [] w.modified) e3.1 in
     let e5 = maybe_same (codes "modified ") v.modified w.modified _ _ hv.modified hw.modified (λ a rest e. apart 99 109 _ _ e refl) (λ a rest e. apart 99 109 _ _ e refl) e4.1 in
     let e6 = to_mark v hv _ _ _ e5.1 (hw.checked, refl) in
@@ -117,7 +117,7 @@ texts_same v w hv hw e =
 
 -- the lines, one after another, are the text
 pub whole : (v : Values) (t r0 r1 r2 r3 r4 r5 r6 r7 : List ℕ) → t ≡ codes "acng-head 1\n" ++ r0 → r0 ≡ line (codes "path ") v.path r1 → r1 ≡ line (codes "origin ") v.origin r2
-    → r2 ≡ line (codes "size ") v.bytes r3 → r3 ≡ maybe (codes "tag ") v.tag r4 → r4 ≡ maybe (codes "modified ") v.modified r5 → r5 ≡ line (codes "checked ") v.checked r6
+    → r2 ≡ line (codes "size ") v.size r3 → r3 ≡ maybe (codes "tag ") v.tag r4 → r4 ≡ maybe (codes "modified ") v.modified r5 → r5 ≡ line (codes "checked ") v.checked r6
     → r6 ≡ maybe (codes "mark ") v.mark r7 → r7 ≡ from_end → text_of v ≡ t
 unfolding text_of
 whole v t r0 r1 r2 r3 r4 r5 r6 r7 e0 e1 e2 e3 e4 e5 e6 e7 e8 = rw (e0, e1, e2, e3, e4, e5, e6, e7, e8) refl
@@ -146,14 +146,14 @@ maybe_more : (key : List ℕ) (o : Option (List ℕ)) (r : List ℕ) → maybe k
 maybe_more key None r = refl
 maybe_more key (Some v) r = line_more key v r
 
-pub joined : (v : Values) → codes "acng-head 1\n" ++ (line (codes "path ") v.path [] ++ (line (codes "origin ") v.origin [] ++ (line (codes "size ") v.bytes []
+pub joined : (v : Values) → codes "acng-head 1\n" ++ (line (codes "path ") v.path [] ++ (line (codes "origin ") v.origin [] ++ (line (codes "size ") v.size []
     ++ (maybe (codes "tag ") v.tag [] ++ (maybe (codes "modified ") v.modified [] ++ (line (codes "checked ") v.checked [] ++ (maybe (codes "mark ") v.mark [] ++ from_end))))))) ≡ text_of v
 joined v =
     let m = maybe_more (codes "mark ") v.mark from_end in
     let k = ap (λ r. line (codes "checked ") v.checked [] ++ r) m ∙ line_more (codes "checked ") v.checked (from_mark v) in
     let d = ap (λ r. maybe (codes "modified ") v.modified [] ++ r) k ∙ maybe_more (codes "modified ") v.modified (from_checked v) in
     let t = ap (λ r. maybe (codes "tag ") v.tag [] ++ r) d ∙ maybe_more (codes "tag ") v.tag (from_modified v) in
-    let s = ap (λ r. line (codes "size ") v.bytes [] ++ r) t ∙ line_more (codes "size ") v.bytes (from_tag v) in
+    let s = ap (λ r. line (codes "size ") v.size [] ++ r) t ∙ line_more (codes "size ") v.size (from_tag v) in
     let o = ap (λ r. line (codes "origin ") v.origin [] ++ r) s ∙ line_more (codes "origin ") v.origin (from_size v) in
     let p = ap (λ r. line (codes "path ") v.path [] ++ r) o ∙ line_more (codes "path ") v.path (from_origin v) in
     ap (λ r. codes "acng-head 1\n" ++ r) p ∙ sym (text_is v)

@@ -31,7 +31,7 @@ maybe key (Some value) rest = line key value rest
 pub record Values : Type 0 where
   pub path : List ℕ
   pub origin : List ℕ
-  pub bytes : List ℕ
+  pub size : List ℕ
   pub tag : Option (List ℕ)
   pub modified : Option (List ℕ)
   pub checked : List ℕ
@@ -41,7 +41,7 @@ pub record Values : Type 0 where
 pub record AreValues (v : Values) : Type 0 where
   pub path : Lacks 10 v.path
   pub origin : Lacks 10 v.origin
-  pub bytes : Lacks 10 v.bytes
+  pub size : Lacks 10 v.size
   pub tag : IfSome v.tag (Lacks 10)
   pub modified : IfSome v.modified (Lacks 10)
   pub checked : Lacks 10 v.checked
@@ -53,7 +53,7 @@ text_of v =
     line (codes "acng-head 1") []
     (line (codes "path ") v.path
     (line (codes "origin ") v.origin
-    (line (codes "size ") v.bytes
+    (line (codes "size ") v.size
     (maybe (codes "tag ") v.tag
     (maybe (codes "modified ") v.modified
     (line (codes "checked ") v.checked
@@ -65,7 +65,7 @@ abbrev pub cut_values : Lines → Values
 cut_values l = record {
   path = l.path.now;
   origin = l.origin.now;
-  bytes = l.size.now;
+  size = l.size.now;
   tag = option_copied l.tag;
   modified = option_copied l.modified;
   checked = l.checked.now;
@@ -87,7 +87,7 @@ unfoldable pub values_of : Head → Values
 values_of h = record {
   path = h.path;
   origin = origin_text h.label;
-  bytes = decimal h.size;
+  size = decimal h.size;
   tag = h.tag;
   modified = moment_text h.modified;
   checked = decimal h.checked.0;
@@ -106,7 +106,7 @@ IsBoundedLabel bytes (Imported sha256 size) = size ≡ bytes
 -- the bounds of a head that has a record: 253,402,300,800 is the first second of the year 10000
 pub record IsBounded (h : Head) : Type 0 where
   pub label : IsBoundedLabel h.size h.label
-  pub bytes : h.size ≤ 2 ^ 41
+  pub size : h.size ≤ 2 ^ 41
   pub modified : IfSome h.modified (λ m. m.0 < 253402300800)
 
 -- a hash has 32 bytes

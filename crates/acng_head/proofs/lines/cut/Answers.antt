@@ -1,4 +1,4 @@
-use Rattle.std.proofs.Common.{◌≡◌, ◌∙◌, sym}
+use Rattle.std.proofs.Common.{◌∙◌, sym}
 use Rattle.acng_head.proofs.Texts.{to_path, to_origin, to_size, to_tag, to_modified, to_checked, to_mark, to_end, whole, text_is, same_text, other_text}
 use Rattle.acng_head.proofs.lines.cut.Goals as goal
 
@@ -60,6 +60,6 @@ returns c =
     let size = c.in_ok-size.ensures in
     let checked = c.in_ok-checked.ensures in
     let end = same_text _ _ (sym c.ne.ensures ∙ c.if-ne.false) ∙ c.as_slice.ensures in (
-      record { path = path.0; origin = origin.0; bytes = size.0; tag = o4.value; modified = o5.value; checked = checked.0; mark = o7.value },
+      record { path = path.0; origin = origin.0; size = size.0; tag = o4.value; modified = o5.value; checked = checked.0; mark = o7.value },
       whole _ _ _ _ _ _ _ _ _ _ c.in_ok-rest.ensures path.1 origin.1 size.1 o4.found o5.found checked.1 o7.found end,
     )

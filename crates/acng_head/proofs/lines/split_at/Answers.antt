@@ -1,4 +1,4 @@
-use Rattle.std.proofs.Common.{◌≡◌, ◌+◌, List, ℕ, ◌∷◌, ◌++◌, sym, ap, ◌∙◌, take, drop}
+use Rattle.std.proofs.Common.{◌+◌, ◌∷◌, ◌++◌, sym, ap, ◌∙◌, take}
 use Rattle.acng_base.proofs.Ranges.{rest_is_drop}
 use Rattle.acng_head.proofs.Cuts.{cut_at, no_cut}
 use Rattle.acng_head.proofs.lines.split_at.Goals as goal

@@ -1,4 +1,4 @@
-use Rattle.std.proofs.Common.{◌≡◌, ◌∙◌, [], codes, ap, arith}
+use Rattle.std.proofs.Common.{[], codes, ap, arith}
 use Rattle.acng_head.specs.Records.{line, values_of, record_text}
 use Rattle.acng_head.specs.Writes.{Puts}
 use Rattle.acng_head.proofs.Placed.{Puts-trans, Puts-is}
