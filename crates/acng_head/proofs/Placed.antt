@@ -1,5 +1,5 @@
 -- Texts put one after another.
-use Rattle.std.proofs.Common.{◌≡◌, ℕ, List, [], ◌++◌, append-nil, length, take, drop, refl, sym, ap, ◌∙◌, subst, append_assoc, length-append, arith}
+use Rattle.std.proofs.Common.{◌≡◌, ℕ, List, ◌++◌, length, take, drop, sym, ap, ◌∙◌, subst, append_assoc, length-append, arith}
 use Rattle.std.proofs.lemmas.List.{drop-drop}
 use Rattle.acng_head.specs.Writes.{Puts}
 
@@ -12,10 +12,6 @@ Puts-trans {a} {b} {c} {i} {j} {k} {s} {t} p q =
       after = q.after ∙ ap (λ n. drop n b) q.end_is ∙ sym (drop-drop (length t) j b) ∙ ap (drop (length t)) p.after ∙ drop-drop (length t) j a ∙ ap (λ n. drop n a) (sym q.end_is);
       len = q.len ∙ p.len;
     }
-
--- where nothing is put
-pub Puts-none : (a : List ℕ) (i : ℕ) → Puts a a i i []
-Puts-none a i = record { end_is = omega arith; front = sym (append-nil (take i a)); after = refl; len = refl }
 
 pub Puts-is : {a b : List ℕ} {i j : ℕ} {s t : List ℕ} → Puts a b i j s → s ≡ t → Puts a b i j t
 Puts-is {a} {b} {i} {j} p e = subst (λ x. Puts a b i j x) e p

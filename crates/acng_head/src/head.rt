@@ -2,7 +2,7 @@
 use acng_base::{CachePath, Hash, Moment, Tag};
 
 /// Where a file came from.
-#[derive(Debug, Drop)]
+#[derive(Clone, Copy, Debug, PartialEq, Eq)]
 pub enum Label {
     /// Downloads, of which the first and the last attempt are named.
     Fetched { first: u64, last: u64 },

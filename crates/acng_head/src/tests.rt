@@ -64,32 +64,13 @@ fn is_record(alloc: Global, head: &Head, text: &[u8], len: usize) -> Result<bool
 }
 
 fn is_same(a: &Head, b: &Head) -> bool {
-    let labels = match (&a.label, &b.label) {
-        (
-            Label::Fetched { first, last },
-            Label::Fetched {
-                first: f,
-                last: l,
-                ..
-            },
-        ) => first == f && last == l,
-        (Label::Imported { sha256, size }, Label::Imported { sha256: h, size: s }) => {
-            sha256 == h && size == s
-        }
-        _ => false,
-    };
     let tags = match (&a.tag, &b.tag) {
         (Some(tag), Some(other)) => tag.as_bytes() == other.as_bytes(),
         (None, None) => true,
         _ => false,
     };
-    labels
-        && tags
-        && a.path == b.path
-        && a.size == b.size
-        && a.modified == b.modified
-        && a.checked == b.checked
-        && a.mark == b.mark
+    let dates = a.modified == b.modified && a.checked == b.checked && a.mark == b.mark;
+    tags && dates && a.path == b.path && a.label == b.label && a.size == b.size
 }
 
 #[test]
