@@ -69,6 +69,10 @@ heads_same g h ig ih e =
 
 -- ---- texts
 
+-- a head has one record, and a record one head: for a caller to cite
+pub record_same : (g h : Head) → IsHead g → IsHead h → record_text g ≡ record_text h → g ≡ h
+record_same g h ig ih e = heads_same g h ig ih (texts_same (values_of g) (values_of h) (are_values g ig) (are_values h ih) e)
+
 module _ (v : Values) (t : List ℕ) (av : AreValues v) (et : text_of v ≡ t) where
   cut_as : (h : Head) → IsHead h → record_text h ≡ t → values_of h ≡ v
   cut_as h is e = texts_same (values_of h) v (are_values h is) av (e ∙ sym et)
@@ -82,7 +86,7 @@ module _ (v : Values) (t : List ℕ) (av : AreValues v) (et : text_of v ≡ t) w
   pub same_in : (o : Option Head) → MatchOption o ((h : Head) → IsHead h → values_of h ≢ v) (λ h. IsHead h × (values_of h ≡ v))
       → (h : Head) → IsHead h → record_text h ≡ t → o ≡ Some h
   same_in None g h is e = absurd (g h is (cut_as h is e))
-  same_in (Some x) g h is e = ap Some (heads_same x h g.0 is (g.1 ∙ sym (cut_as h is e)))
+  same_in (Some x) g h is e = ap Some (record_same x h g.0 is (ap text_of g.1 ∙ et ∙ sym e))
 
   -- a text whose path is none is no record
   pub no_path : path_refusal v.path ≢ None → (h : Head) → IsHead h → record_text h ≢ t

@@ -18,10 +18,10 @@ pub struct Head {
     /// The bytes of the file.
     pub size: u64,
     pub tag: Option<Tag>,
-    /// When the origin says that the file was changed.
+    /// When the file was changed, as its origin says.
     pub modified: Option<Moment>,
-    /// When the file was last known to be the origin's.
+    /// When the file was last fetched, found the same or imported.
     pub checked: Moment,
-    /// When the file was first found to be named by no index.
+    /// Since when no index reaches the file; None while one does.
     pub mark: Option<Moment>,
 }

@@ -15,6 +15,8 @@
 //! end
 //! ```
 //!
+//! PATH is a path of the cache and TAG a strong tag. FIRST and LAST are attempts below 2^63, in order; an import names
+//! no size, since its size is the file's. A file has at most 2^41 bytes, and `modified` lies before the year 10000.
 //! Numbers have no leading zero and a hash has 64 lower-case digits, so a head has one record.
 #![tactic(auto)]
 

@@ -31,6 +31,7 @@ pub fn write_head(head: &Head, out: &mut [u8; 2048]) -> usize
     put(out, at, b"end\n")
 }
 
+// Puts the line of the origin: at most 7 bytes of its key, 73 of an import, and LF.
 fn put_label(out: &mut [u8], at: usize, label: &Label) -> usize
     requires { at + 81 ≤ length out.old }
     ensures puts { Puts out.old out.new at result (line (codes "origin ") (origin_text label.now) []) }
@@ -48,6 +49,7 @@ fn put_label(out: &mut [u8], at: usize, label: &Label) -> usize
     }
 }
 
+// Puts the line of a tag, if there is one: at most 4 bytes of its key, 256 of the tag, and LF.
 fn put_tag(out: &mut [u8], at: usize, tag: &Option<Tag>) -> usize
     requires { at + 261 ≤ length out.old }
     ensures puts { Puts out.old out.new at result (maybe (codes "tag ") tag.now []) }
@@ -60,6 +62,7 @@ fn put_tag(out: &mut [u8], at: usize, tag: &Option<Tag>) -> usize
     }
 }
 
+// Puts the line of a moment, if there is one.
 fn put_moment(out: &mut [u8], at: usize, key: &[u8], moment: &Option<Moment>) -> usize
     requires { at + length key.now + 21 ≤ length out.old }
     ensures puts { Puts out.old out.new at result (maybe key.now (moment_text moment.now) []) }
@@ -85,6 +88,7 @@ fn put_number(out: &mut [u8], at: usize, key: &[u8], n: u64, end: &[u8]) -> usiz
     put(out, at, end)
 }
 
+// Puts a line of a key and a value.
 fn put_line(out: &mut [u8], at: usize, key: &[u8], value: &[u8]) -> usize
     requires { at + length key.now + length value.now + 1 ≤ length out.old }
     ensures { Puts out.old out.new at result (line key.now value.now []) }
