@@ -1,0 +1,6 @@
+pub mod Cuts
+pub mod Lacking
+pub mod Numbers
+pub mod Placed
+pub mod Same
+pub mod Texts
