@@ -1,17 +1,16 @@
 -- The reply with a file, by what the link took of it.
-use Rattle.std.proofs.Common.{◌≡◌, ℕ, ◌+◌, ◌-◌, ◌≤◌, false, List, [], ◌++◌, length, take, Option, inl, inr, refl, ap, sym, ◌∙◌, subst, arith, append-nil}
+use Rattle.std.proofs.Common.{◌≡◌, ℕ, ◌+◌, ◌≤◌, false, List, [], ◌++◌, length, take, Option, inl, inr, refl, ap, sym, ◌∙◌, subst, arith, append-nil}
 use Rattle.std.proofs.lemmas.List.{length-append, take-append-le}
 use Rattle.std.proofs.Math.Seq.{take-append-add}
 use Rattle.std.proofs.KnownBytes.{Appends-trans}
 use Rattle.std.specs.Io.KnownBytes.{Appends}
 use Rattle.acng_base.specs.Causes.{Rose}
-use Rattle.acng_base.specs.Answers.{Reading, nothing, after_body}
+use Rattle.acng_base.specs.Answers.{Reading}
 use Rattle.acng_request.specs.ReplyHeads.{head_text}
 use Rattle.acng_cli.specs.declared.note.Note.{Note}
 use Rattle.acng_cli.specs.declared.event.End.{End}
 use Rattle.acng_cli.specs.declared.pass.PassEnd.{PassEnd}
 use Rattle.acng_cli.specs.declared.pass.PassEnd.TheVariants.{Ended, ClientFault}
-use Rattle.acng_cli.specs.Events.{outcome_of}
 use Rattle.acng_cli.specs.Passes.{PassesOn, PassesAll, PassesFront, IsNoteOf}
 use Rattle.acng_cli.specs.Replies.{Sends, SendsBoth, passed, file_head}
 use Rattle.acng_cli.proofs.Sendings.{in_head, sent_front, rose_since}

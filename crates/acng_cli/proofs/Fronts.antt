@@ -1,6 +1,6 @@
 -- A reply with a file sends a front of the file, where the site is honest.
-use Rattle.std.proofs.Common.{◌≡◌, ℕ, zero, suc, ◌∷◌, ◌+◌, ◌-◌, ◌≤◌, true, false, List, [], ◌++◌, length, take, Option, Some, None, ◌⊎◌, inl, inr, refl, ap, sym, ◌∙◌, subst, arith}
-use Rattle.std.proofs.lemmas.List.{length-append, length-take, length-take-le, take_all, take-take}
+use Rattle.std.proofs.Common.{◌≡◌, ℕ, zero, suc, ◌∷◌, ◌-◌, ◌≤◌, true, List, [], length, take, Option, Some, None, ◌⊎◌, inl, inr, refl, ap, sym, ◌∙◌, subst, arith}
+use Rattle.std.proofs.lemmas.List.{length-append, length-take-le, take_all, take-take}
 use Rattle.std.specs.Io.KnownBytes.{Appends}
 use Rattle.acng_base.specs.Heads.{Head as AnswerOf}
 use Rattle.acng_base.specs.Answers.{Reading, Outcome, Whole, Early, Open, Bad}

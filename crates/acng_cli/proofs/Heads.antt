@@ -1,6 +1,6 @@
 -- A text begins with one head at the most, so it asks for one URL.
 use Rattle.std.proofs.Common.{◌≡◌, ℕ, List, [], ◌∷◌, ◌++◌, codes, drop, Option, Some, None, IfSome, refl, sym, ap, subst, ◌∙◌, append_assoc}
-use Rattle.acng_request.specs.FirstForm.{HasHead, url_of, head_text, tail_text, IsFirstForm}
+use Rattle.acng_request.specs.FirstForm.{HasHead, url_of, tail_text, IsFirstForm}
 use Rattle.acng_request.specs.Judged.{IsTarget}
 use Rattle.acng_request.proofs.Cuts.{cut_unique}
 use Rattle.acng_request.proofs.Targets.{target_lacks_blank, host_lacks_slash}

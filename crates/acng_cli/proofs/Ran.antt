@@ -1,5 +1,5 @@
 -- What a run of `once` says, in each of its cases.
-use Rattle.std.proofs.Common.{◌≡◌, ℕ, ◌+◌, ◌≤◌, ◌⊎◌, inl, inr, Bool, true, List, Option, Some, None, IfSome, refl, ap, sym, ◌∙◌, subst, arith}
+use Rattle.std.proofs.Common.{◌≡◌, ℕ, ◌+◌, ◌≤◌, ◌⊎◌, inl, inr, Bool, true, List, Option, Some, None, IfSome, refl, ap, ◌∙◌, subst, arith}
 use Rattle.acng_base.specs.Answers.{Reading}
 use Rattle.acng_site.specs.declared.ask.Ask.{Ask}
 use Rattle.acng_site.specs.Honest.{IsHonest}
@@ -9,7 +9,7 @@ use Rattle.acng_cli.specs.declared.note.Once.{Once}
 use Rattle.acng_cli.specs.declared.note.OnceStop.TheVariants as stop
 use Rattle.acng_cli.specs.Replies.{Reply, Sends, reply_to}
 use Rattle.acng_cli.specs.Runs.{answer_of, ask_of, RepliesTo}
-use Rattle.acng_cli.specs.Once.{Outside, Replies, EndsUnread, FailsUnread, LacksMemory, IsHindered, RefusesHead, AnswersAs, ServesRequests, SendsFileOf, RanOnce, file_of}
+use Rattle.acng_cli.specs.Once.{Outside, Replies, EndsUnread, IsHindered, RefusesHead, AnswersAs, ServesRequests, SendsFileOf, RanOnce, file_of}
 use Rattle.acng_cli.proofs.Heads.{one_url}
 use Rattle.acng_cli.proofs.Fronts.{by_head_status, sends_front}
 use Rattle.acng_cli.proofs.Taken.{head_taken}

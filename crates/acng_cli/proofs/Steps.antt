@@ -1,14 +1,12 @@
 -- What one step of a reader over a part of the buffer makes of the reading that is left.
-use Rattle.std.proofs.Common.{◌≡◌, ℕ, ◌+◌, ◌-◌, ◌≤◌, Bool, not, List, ◌++◌, Option, IsSome, Some, length, slice_range, drop, ap, ◌∙◌, arith}
-use Rattle.acng_base.specs.Heads.{Head as AnswerOf}
-use Rattle.acng_base.specs.Answers.{Reading, framing, after_head, after_body, nothing, Whole, Early, Bad}
+use Rattle.std.proofs.Common.{◌≡◌, ℕ, ◌+◌, ◌-◌, ◌≤◌, Bool, not, List, ◌++◌, Option, length, slice_range, drop, ap, ◌∙◌, arith}
+use Rattle.acng_base.specs.Answers.{Reading, after_head, after_body}
 use Rattle.acng_answer.specs.declared.step.AnswerHead.{AnswerHead}
-use Rattle.acng_answer.specs.declared.step.Step.{Step}
 use Rattle.acng_answer.specs.declared.step.Step.TheVariants as step
-use Rattle.acng_answer.specs.Reader.{State, rest, Tells, answer_head}
+use Rattle.acng_answer.specs.Reader.{State, rest, Tells}
 use Rattle.acng_cli.specs.declared.event.Pending.{Pending}
 use Rattle.acng_cli.specs.Events.{left_of}
-use Rattle.acng_cli.proofs.Pieces.{left_over, part_of, length-slice_range}
+use Rattle.acng_cli.proofs.Pieces.{left_over, part_of}
 
 abbrev part : ℕ → ℕ → Pending
 part from to = record { from = from; to = to }

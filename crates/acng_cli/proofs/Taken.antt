@@ -1,10 +1,10 @@
 -- Each final head of a reading is one that is taken: so far one of status 200.
-use Rattle.std.proofs.Common.{◌≡◌, ℕ, zero, suc, ◌+◌, Bool, true, false, List, take, drop, Option, Some, None, cond, nat_le, length, ◌==◌, refl, subst, codes}
+use Rattle.std.proofs.Common.{◌≡◌, ℕ, ◌+◌, Bool, true, false, List, take, drop, Option, Some, None, cond, nat_le, length, ◌==◌, refl, subst, codes}
 use borrow.Author.Tests.{eqb-true}
 use Rattle.acng_base.specs.declared.block.Mark.TheVariants.{Before}
 use Rattle.acng_base.specs.Lines.{block_len}
 use Rattle.acng_base.specs.Heads.{Head, head_of, values}
-use Rattle.acng_base.specs.Answers.{Framing, Counted, Reading, reading, within, on_limit, from_head, heads, on_block, on_head, framed, framing, by_fields}
+use Rattle.acng_base.specs.Answers.{Framing, Counted, Reading, reading, on_limit, from_head, heads, on_block, on_head, framed, framing, by_fields}
 
 abbrev pub IsTakenHead : Reading → Type 0
 IsTakenHead r = (h : Head) → r.head ≡ Some h → h.status ≡ 200

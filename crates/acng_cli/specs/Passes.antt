@@ -1,5 +1,5 @@
 -- The body of an answer, passed on as it comes.
-use Rattle.std.specs.Prelude.{◌≡◌, ℕ, ◌≤◌, Bool, false, List, ◌++◌, length, take, Option, Some, None}
+use Rattle.std.specs.Prelude.{◌≡◌, ℕ, ◌≤◌, Bool, false, List, length, take, Option, Some, None}
 use Rattle.std.specs.Io.KnownBytes.{Appends}
 use Rattle.acng_base.specs.Causes.{Rose}
 use Rattle.acng_base.specs.Answers.{Reading, nothing, after_body}
@@ -11,7 +11,6 @@ use Rattle.acng_cli.specs.declared.note.Cause.{Cause}
 use Rattle.acng_cli.specs.declared.note.Cause.TheVariants as cause
 use Rattle.acng_cli.specs.declared.note.Note.{Note}
 use Rattle.acng_cli.specs.declared.event.End.{End}
-use Rattle.acng_cli.specs.declared.pass.Passed.{Passed}
 use Rattle.acng_cli.specs.declared.pass.PassEnd.{PassEnd}
 use Rattle.acng_cli.specs.declared.pass.PassEnd.TheVariants.{Ended, ClientFault}
 

@@ -1,4 +1,4 @@
-use Rattle.std.proofs.Common.{◌≡◌, ◌∙◌, ap, sym, refl, subst, inl, inr, not, [], true}
+use Rattle.std.proofs.Common.{◌∙◌, ap, sym, refl, subst, inl, inr, not, []}
 use Rattle.acng_base.specs.Answers.{nothing, Open, reading, answer_limit}
 use Rattle.acng_cli.specs.declared.refusal.Refusal.TheVariants.{Load}
 use Rattle.acng_cli.specs.declared.note.Shown.TheVariants.{Origin}

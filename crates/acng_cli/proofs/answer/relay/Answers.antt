@@ -1,6 +1,5 @@
-use Rattle.std.proofs.Common.{◌≡◌, ◌∙◌, ap, sym, refl, subst}
+use Rattle.std.proofs.Common.{◌∙◌, ap, subst}
 use Rattle.acng_base.specs.Answers.{after_head as after_the_head, nothing}
-use Rattle.acng_answer.specs.Reader.{answer_head}
 use Rattle.acng_cli.specs.Events.{outcome_of}
 use Rattle.acng_cli.specs.Passes.{told_length}
 use Rattle.acng_cli.specs.Replies.{Sends, passed, refused}

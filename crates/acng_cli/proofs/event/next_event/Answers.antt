@@ -1,8 +1,5 @@
-use Rattle.std.proofs.Common.{◌≡◌, ◌+◌, ◌-◌, ◌≤◌, true, length, slice_range, ◌∙◌, subst, arith}
-use Rattle.acng_base.specs.Answers.{after_head, after_body}
-use Rattle.acng_answer.specs.declared.step.Step.{Step}
+use Rattle.std.proofs.Common.{slice_range, ◌∙◌, subst, arith}
 use Rattle.acng_answer.specs.Reader.{rest, Tells, KeepsHead, Progresses}
-use Rattle.acng_cli.specs.Events.{left_of}
 use Rattle.acng_cli.proofs.Pieces.{length-slice_range}
 use Rattle.acng_cli.proofs.Steps.{after_more, after_the_head, after_bytes}
 use Rattle.acng_cli.proofs.event.next_event.Goals as goal

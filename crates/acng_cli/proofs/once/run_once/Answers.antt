@@ -1,6 +1,5 @@
-use Rattle.std.proofs.Common.{◌≡◌, ℕ, ◌+◌, true, ◌++◌, [], List, Some, None, IfSome, ap, sym, ◌∙◌, refl, subst, inl, inr}
+use Rattle.std.proofs.Common.{◌≡◌, ◌++◌, IfSome, ap, ◌∙◌, refl, subst, inl, inr}
 use Rattle.std.proofs.Math.Nat.{le_trans}
-use Rattle.acng_site.specs.declared.ask.Ask.{Ask}
 use Rattle.acng_request.specs.FirstForm.{BeginsHead, MayBecomeHead, NeverHead, url_of}
 use Rattle.acng_request.specs.Gots.{GivesRequest}
 use Rattle.acng_cli.specs.declared.refusal.Refusal.TheVariants.{Head, NoMemory}

@@ -1,4 +1,4 @@
-use Rattle.std.proofs.Common.{◌≡◌, ◌+◌, ◌-◌, ◌≤◌, ℕ, true, length, slice_range, is_err, not, ap, ◌∙◌, sym, subst, arith, is_ok, IsSome}
+use Rattle.std.proofs.Common.{◌≡◌, ◌≤◌, true, length, slice_range, not, ap, ◌∙◌, sym, subst, arith, IsSome}
 use Rattle.std.proofs.KnownBytes.{Keeps-trans}
 use Rattle.acng_base.specs.Causes.{Rose}
 use Rattle.acng_cli.specs.Events.{left_of}

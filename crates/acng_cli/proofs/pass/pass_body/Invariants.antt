@@ -1,6 +1,5 @@
-use Rattle.std.proofs.Common.{◌≡◌, ◌+◌, ◌-◌, ◌^◌, ◌<◌, ◌≤◌, true, ℕ, List, IsSome, length}
-use Rattle.std.specs.Io.KnownBytes.{Appends, Keeps}
-use Rattle.acng_base.specs.Answers.{after_body}
+use Rattle.std.proofs.Common.{◌≡◌, ◌-◌, ◌^◌, ◌<◌, ◌≤◌, true, IsSome, length}
+use Rattle.std.specs.Io.KnownBytes.{Keeps}
 use Rattle.acng_cli.specs.Events.{IsPending, left_of}
 use Rattle.acng_cli.proofs.Passing.{IsPassed}
 use Rattle.acng_cli.proofs.pass.pass_body.Given as goal

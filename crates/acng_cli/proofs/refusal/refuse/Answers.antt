@@ -2,7 +2,7 @@ use Rattle.std.proofs.Common.{◌≡◌, ◌∙◌, ap, refl, is_ok, OnErr, subs
 use Rattle.acng_base.specs.Causes.{Rose}
 use Rattle.acng_request.specs.ReplyHeads.{head_text}
 use Rattle.acng_cli.specs.declared.note.Cause.TheVariants.{ClientFault}
-use Rattle.acng_cli.specs.Replies.{refused, line_head, status_of, line_of}
+use Rattle.acng_cli.specs.Replies.{refused, line_head, status_of}
 use Rattle.acng_cli.proofs.Sendings.{sent_all, sent_front}
 use Rattle.acng_cli.proofs.refusal.refuse.Goals as goal
 
