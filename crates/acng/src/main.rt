@@ -7,9 +7,8 @@
 use acng_base::{NoMemory, StdLink, Text};
 use acng_cli::run_single;
 use acng_site::NetOrigin;
-use std::env;
-use std::io;
 use std::process::ExitCode;
+use std::{env, io};
 
 /// The words are no words of the program.
 const REFUSED: u8 = 2;
@@ -20,7 +19,9 @@ fn main(rt: HostRuntime) -> ExitCode {
     let alloc = rt.alloc();
     let args = match env::args(&rt) {
         Ok(args) => args,
-        Err(error) if error.kind() == io::ErrorKind::OutOfMemory => return ExitCode::from(NO_MEMORY),
+        Err(error) if error.kind() == io::ErrorKind::OutOfMemory => return ExitCode::from(
+            NO_MEMORY,
+        ),
         Err(_) => return ExitCode::from(REFUSED),
     };
     let Ok(words) = words_of(alloc, args) else {

@@ -123,14 +123,14 @@ module _ (left limit used : ℕ) (piece : List ℕ) (old new : Bool → List ℕ
         l.before old ∙ ap (capped l.all limit) (t.reads l.mark l.rest) ∙ capped_head t.head _ limit l.all ∙ ap (after_head t.head) (sym (l.after new));
   }
   limited told (steps.Body start stop) t = record {
-      some = t.some;
-      inside = t.inside;
-      reads = λ ended more.
+    some = t.some;
+    inside = t.inside;
+    reads = λ ended more.
         let l = looks left limit used piece more ended fits_piece.0 fits_piece.1 in
         l.before old ∙ ap (capped l.all limit) (t.reads l.mark l.rest) ∙ capped_body _ _ limit l.all
         ∙ ap (after_body (slice_range (take left piece) start stop)) (sym (l.after new))
         ∙ ap (λ b. after_body b (within (left - used) limit new ended (drop used piece ++ more))) (slice_take left piece start stop t.some (let k = t.inside in omega (arith, h)));
-    }
+  }
   limited told steps.Whole t = ended_tells Whole (record { kept = λ _. refl }) t
   limited told steps.Early t = ended_tells Early (record { kept = λ _. refl }) t
   limited told (steps.Bad at) t = ended_tells (Bad at) (record { kept = λ _. refl }) t
