@@ -1,0 +1,7 @@
+pub mod Codes
+pub mod Handles
+pub mod Images
+pub mod Kept
+pub mod Lists
+pub mod Slips
+pub mod Stops
