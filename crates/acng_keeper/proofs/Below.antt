@@ -13,6 +13,13 @@ has-insert m new k v is id = ap is_some (ap (λ t. get t id) is ∙ get-insert n
 has-remove : {X : Type 0} (m new : FinMap nat_cmp X) (k : ℕ) → new ≡ remove m k → (id : ℕ) → contains_key new id ≡ is_some (cond (eq_by_cmp nat_cmp id k) None (get m id))
 has-remove m new k is id = ap is_some (ap (λ t. get t id) is ∙ get-remove nat_cmp_total m k id)
 
+put_case : {X : Type 0} (o : Option X) (v : X) (b : Bool) → b ≡ true → is_some (cond b (Some v) o) ≡ true
+put_case o v true is = refl
+put_case o v false is = absurd (grind (arith, is))
+
+pub has_put : {X : Type 0} (m new : FinMap nat_cmp X) (k : ℕ) (v : X) → new ≡ insert m k v → contains_key new k ≡ true
+has_put m new k v is = has-insert m new k v is k ∙ put_case (get m k) v (eq_by_cmp nat_cmp k k) (unsigned_tied k k ∙ grind arith)
+
 -- ---- ids below a bound
 
 one_more : {X : Type 0} (o : Option X) (v : X) (k id n p : ℕ) (b : Bool) → (id == k) ≡ b → k < n → p ≤ n → (is_some o ≡ true → id + 1 ≤ p) → is_some (cond b (Some v) o) ≡ true → id + 1 ≤ n

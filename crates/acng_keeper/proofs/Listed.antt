@@ -1,13 +1,13 @@
 -- What the lists of a map's entries and keys have.
-use Rattle.std.proofs.Common.{◌≡◌, ℕ, ◌+◌, ◌≤◌, ◌<◌, ◌==◌, ◌||◌, Bool, true, false, cond, List, [], ◌∷◌, Option, Some, None, is_some, ap, sym, refl, ◌∙◌, arith}
+use Rattle.std.proofs.Common.{◌≡◌, ℕ, ◌+◌, ◌≤◌, ◌<◌, ◌==◌, ◌||◌, Bool, true, false, cond, List, [], ◌∷◌, Option, Some, None, is_some, ap, sym, refl, subst, ◌∙◌, arith}
 use Rattle.std.specs.List.{list_any}
 use Rattle.std.specs.Map.{keys_of}
 use Rattle.std.specs.Ordering.{nat_cmp, eq_by_cmp}
 use Rattle.std.specs.Cmp.{nat_cmp_total, unsigned_tied}
-use Rattle.std.specs.FinMap.{FinMap, contains_key, get, find, insert, from_entries, get-empty, get-insert}
+use Rattle.std.specs.FinMap.{FinMap, contains_key, empty, get, find, insert, from_entries, get-empty, get-insert}
 use Rattle.std.proofs.lemmas.List.Elements.{All-nil, All-cons}
-use Rattle.acng_keeper.specs.Kept.{IdsBelow, IdSet}
-use Rattle.acng_keeper.specs.Lists.{AllBelow}
+use Rattle.acng_keeper.specs.Kept.{Store, IdsBelow, IdSet}
+use Rattle.acng_keeper.specs.Lists.{AllBelow, ListsBodies}
 use Rattle.acng_keeper.proofs.Entered.{found}
 
 either_case : {X : Type 0} (b : Bool) (v : X) (o : Option X) → is_some (cond b (Some v) o) ≡ (b || is_some o)
@@ -37,6 +37,16 @@ all_below n (k ∷ ks) below = below_case n k ks below (all_below n ks (λ q had
 pub keys_below : {X : Type 0} (n : ℕ) (es : List (ℕ × X)) → IdsBelow n (from_entries {R = nat_cmp} es) → AllBelow n (keys_of es)
 keys_below n es below = all_below n (keys_of es) (λ q had. below.each q (sym (list_any-keys es q) ∙ had))
 
+pub heads_below : {X : Type 0} (n : ℕ) (es : List (ℕ × X)) (m : FinMap nat_cmp X) → from_entries {R = nat_cmp} es ≡ m → IdsBelow n m → AllBelow n (keys_of es)
+heads_below n es m is below = keys_below n es (subst (IdsBelow n) (sym is) below)
+
+one_has : (b c : Bool) (id n : ℕ) → (b ≡ true → id + 1 ≤ n) → (c ≡ true → id + 1 ≤ n) → (b || c) ≡ true → id + 1 ≤ n
+one_has true c id n first second had = first refl
+one_has false c id n first second had = second had
+
+pub bodies_below : (n : ℕ) (bodies : Store) (loose : IdSet) (ids : List ℕ) → ListsBodies bodies loose ids → IdsBelow n bodies → IdsBelow n loose → AllBelow n ids
+bodies_below n bodies loose ids lists sealed unsealed = all_below n ids (λ q had. one_has (contains_key bodies q) (contains_key loose q) q n (sealed.each q) (unsealed.each q) (sym (lists.each q) ∙ had))
+
 -- ---- ids put into another map, one by one
 
 moved_case : {X Y : Type 0} (b : Bool) (t : Y) (v : X) (o : Option Y) (f : Option X) → (is_some (cond b (Some t) o) || is_some f) ≡ (is_some o || is_some (cond b (Some v) f))
@@ -61,3 +71,11 @@ none_left all es none q = or_false (contains_key all q) ∙ ap (λ xs. contains_
 -- all are left
 pub all_left : {X : Type 0} (all : IdSet) (es fs : List (ℕ × X)) (m : FinMap nat_cmp X) → es ≡ fs → from_entries {R = nat_cmp} fs ≡ m → (q : ℕ) → (contains_key all q || is_some (find nat_cmp q es)) ≡ (contains_key all q || contains_key m q)
 all_left all es fs m same is q = ap (λ xs. contains_key all q || is_some (find nat_cmp q xs)) same ∙ ap (λ o. contains_key all q || is_some o) (found fs q) ∙ ap (λ t. contains_key all q || contains_key t q) is
+
+-- the ids of both, gathered in a map that was empty
+pub gathered : (bodies : Store) (loose start first all : IdSet) (ids : List ℕ) → start ≡ empty → ((q : ℕ) → contains_key first q ≡ (contains_key start q || contains_key bodies q)) → ((q : ℕ) → contains_key all q ≡ (contains_key first q || contains_key loose q)) → ((q : ℕ) → list_any (λ i. q == i) ids ≡ contains_key all q) → ListsBodies bodies loose ids
+gathered bodies loose start first all ids none one two lists = record {
+  each = λ q.
+      let clear : contains_key start q ≡ false = ap is_some (ap (λ m. get m q) none ∙ get-empty {X = Unit {0}} nat_cmp q) in
+      lists q ∙ two q ∙ ap (λ b. b || contains_key loose q) (one q ∙ ap (λ b. b || contains_key bodies q) clear);
+}

@@ -127,7 +127,7 @@ pub trait Keeper: Drop {
 
     /// The ids of all bodies, sealed or not.
     fn list_bodies(&mut self, alloc: Global) -> Result<Ids, KeepFault<SlipOf<Self>>>
-        ensures listed { IfOk result (λ ids. tells ≡ true → ListsBodies (kept self.old) ids) }
+        ensures listed { IfOk result (λ ids. tells ≡ true → ListsBodies (kept self.old).bodies (kept self.old).loose ids) }
         ensures ordered { IfOk result (λ ids. IsStrictlySortedBy nat_cmp ids) }
         ensures below { IfOk result (λ ids. AllBelow (next self.old) ids) }
 

@@ -5,14 +5,20 @@
 #![tactic(auto)]
 
 pub mod body;
+pub mod calls;
 pub mod effect;
 pub mod keeper;
 pub mod lists;
+pub mod memory;
 mod shelf;
 pub mod slip;
+#[cfg(test)]
+mod tests;
 
 pub use body::{BodyFile, BodyId};
+pub use calls::CallSlip;
 pub use effect::Effect;
 pub use keeper::{Keeper, SlipOf};
 pub use lists::{Heads, Ids};
+pub use memory::{MemoryBody, MemoryKeeper};
 pub use slip::{KeepFault, KeeperSlip};
