@@ -40,6 +40,9 @@ keys_below n es below = all_below n (keys_of es) (λ q had. below.each q (sym (l
 pub heads_below : {X : Type 0} (n : ℕ) (es : List (ℕ × X)) (m : FinMap nat_cmp X) → from_entries {R = nat_cmp} es ≡ m → IdsBelow n m → AllBelow n (keys_of es)
 heads_below n es m is below = keys_below n es (subst (IdsBelow n) (sym is) below)
 
+pub ids_below : (n : ℕ) (m : IdSet) (ids : List ℕ) → ((q : ℕ) → list_any (λ i. q == i) ids ≡ contains_key m q) → IdsBelow n m → AllBelow n ids
+ids_below n m ids lists below = all_below n ids (λ q had. below.each q (sym (lists q) ∙ had))
+
 one_has : (b c : Bool) (id n : ℕ) → (b ≡ true → id + 1 ≤ n) → (c ≡ true → id + 1 ≤ n) → (b || c) ≡ true → id + 1 ≤ n
 one_has true c id n first second had = first refl
 one_has false c id n first second had = second had

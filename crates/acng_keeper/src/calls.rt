@@ -1,5 +1,5 @@
 //! The calls of a keeper and of its bodies, numbered together from 0, and the slip of a call that failed.
-ghost use Rattle.std.specs.Prelude.{◌≡◌, ◌<◌, ℕ, nat_lt, length, IfOk, OnOk, OnErr, false};
+ghost use Rattle.std.specs.Prelude.{◌≡◌, ◌<◌, ℕ, nat_lt, length, IfOk, OnOk, OnErr, true, false};
 ghost use Rattle.acng_keeper.specs.Slips.{Faults, HasFailed, Later, none_yet};
 
 use crate::slip::KeeperSlip;
@@ -55,7 +55,59 @@ impl Numbers {
     }
 }
 
-/// The calls of one object: those of its keeper that fail, and how often one of its own failed. Contracts see the
+/// The calls of one object over the real outside, any of which may fail, and how often one did. Contracts see the
+/// faults.
+#[derive(Drop)]
+pub(crate) struct Account {
+    numbers: Numbers,
+    faults: u64,
+}
+
+impl Model for Account {
+    ghost use Rattle.std.specs.Prelude.{true};
+    ghost use Rattle.acng_keeper.specs.Slips.{Faults};
+
+    ghost Value = { Faults };
+
+    ghost view = { λ a. record { count = a.faults; may_fail = true } };
+}
+
+impl Account {
+    pub(crate) fn new(alloc: Global) -> Result<Account, NoMemory>
+        ensures { IfOk result (λ account. account ≡ none_yet true) }
+    {
+        Ok(Account {
+            numbers: Numbers::new(alloc)?,
+            faults: 0,
+        })
+    }
+
+    /// That of a body of this keeper.
+    pub(crate) fn share(&self) -> Result<Account, NoMemory>
+        ensures { IfOk result (λ account. account ≡ none_yet self.now.may_fail) }
+    {
+        Ok(Account {
+            numbers: self.numbers.share()?,
+            faults: 0,
+        })
+    }
+
+    /// The number of the call that begins.
+    pub(crate) fn begin(&self) -> u64 {
+        self.numbers.draw()
+    }
+
+    /// The slip of the call with this number, which failed.
+    pub(crate) fn fail(&mut self, number: u64) -> CallSlip
+        ensures failed { HasFailed self.old self.new }
+        ensures later { Later self.old self.new }
+    {
+        self.faults = self.faults.saturating_add(1);
+        CallSlip { number }
+    }
+}
+
+/// The calls of one object over memory: those of its keeper that fail, and how often one of its own failed. Contracts see the
 /// faults.
 #[derive(Drop)]
 pub(crate) struct Calls {

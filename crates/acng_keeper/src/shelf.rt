@@ -85,6 +85,15 @@ impl<V: Drop> Shelf<V> {
         Ok(())
     }
 
+    /// All entries, in rising order of ids.
+    pub fn into_list(self, alloc: Global) -> Result<Vec<(u64, V)>, NoMemory>
+        ensures same { IfOk result (λ list. map.from_entries {R = nat_cmp} list.items ≡ self) }
+        ensures ordered { IfOk result (λ list. IsStrictlySortedBy nat_cmp (keys_of list.items)) }
+    {
+        let list = entries(alloc, self.rows)?;
+        Ok(list)
+    }
+
     /// All ids, in rising order.
     pub fn into_ids(self, alloc: Global) -> Result<Vec<u64>, NoMemory>
         ensures same { IfOk result (λ ids. (id : ℕ) → list_any (λ i. id == i) ids.items ≡ map.contains_key self id) }
@@ -101,6 +110,14 @@ fn keys<V: Drop>(alloc: Global, rows: BTreeMap<u64, V>) -> Result<Vec<u64>, NoMe
     ensures ordered { IfOk result (λ ids. IsStrictlySortedBy nat_cmp ids.items) }
 {
     Ok(rows.into_keys().collect(alloc)?)
+}
+
+// The entries of a tree, in its order.
+fn entries<V: Drop>(alloc: Global, rows: BTreeMap<u64, V>) -> Result<Vec<(u64, V)>, NoMemory>
+    ensures same { IfOk result (λ list. list.items ≡ rows.entries) }
+    ensures ordered { IfOk result (λ list. IsStrictlySortedBy nat_cmp (keys_of list.items)) }
+{
+    Ok(rows.into_iter().collect(alloc)?)
 }
 
 impl Shelf<Text> {

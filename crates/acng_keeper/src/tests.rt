@@ -1,12 +1,16 @@
 //! Tests of what no clause says: which call fails and which number its slip has, and what a folder does.
-ghost use Rattle.std.specs.Prelude.{◌≡◌, ◌<◌, ◌+◌, ◌^◌, true, OnOk, IfOk};
+ghost use Rattle.std.specs.Prelude.{◌≡◌, ◌<◌, ◌^◌, true};
 ghost use Rattle.std.specs.FinMap as map;
 ghost use Rattle.acng_keeper.specs.Handles.{fresh};
 
-use crate::{BodyFile, BodyId, CallSlip, KeepFault, Keeper, KeeperSlip, MemoryBody, MemoryKeeper};
+use crate::{
+    BodyFile, BodyId, CallSlip, FolderKeeper, KeepFault, Keeper, KeeperSlip, MemoryBody,
+    MemoryKeeper, OpenFault,
+};
 use std::alloc::Global;
 use std::process::Abort;
 use std::test::Fail;
+use std::{env, fs, process};
 
 // The number of the call that failed.
 fn number_of(rt: &impl Abort, fault: KeepFault<CallSlip>) -> u64 {
@@ -260,5 +264,129 @@ fn each_call_fails_in_turn_and_the_script_goes_on(rt: HostRuntime) -> Result<(),
         remove(&rt, alloc, &mut keeper, id, &mut failing);
         assert_eq!(rt; failing.count, 1, "call {at}");
     }
+    Ok(())
+}
+
+// A folder that isn't there yet.
+fn no_folder(rt: &HostRuntime) -> Result<String, Fail> {
+    let alloc = rt.alloc();
+    let temporary = env::temp_dir(rt)?;
+    let id = process::id(rt.process());
+    let folder = format!(in alloc; "{}/acng-keeper-{id}", temporary.display())?;
+    let _ = fs::remove_dir_all(rt, folder.as_str());
+    Ok(folder)
+}
+
+// A sealed body 0 with its head, and an unsealed body 1.
+fn fill(
+    rt: &impl Abort,
+    alloc: Global,
+    keeper: &mut FolderKeeper<HostRuntime>,
+) -> Result<(), Fail> {
+    assert!(rt; keeper.next_id() < 1 << 62);
+    let (id, mut body) = keeper.create(alloc)?;
+    assert_eq!(rt; id, BodyId(0));
+    body.append(alloc, b"abc".as_slice())?;
+    body.append(alloc, b"def".as_slice())?;
+    body.append(alloc, b"ghi".as_slice())?;
+    assert_eq!(rt; body.len(), 9);
+    let mut buf = [0u8; 16];
+    assert_eq!(rt; body.read_at(4, &mut buf)?, 5);
+    assert_eq!(rt; &buf[..5], b"efghi".as_slice());
+    assert_eq!(rt; body.read_at(9, &mut buf)?, 0);
+    match keeper.seal(alloc, id, body) {
+        Ok(body) => assert_eq!(rt; body.len(), 9),
+        Err(_) => panic!(rt; "the seal is Ok"),
+    }
+    keeper.put_head(alloc, id, b"a head".as_slice())?;
+    keeper.put_head(alloc, id, b"the head".as_slice())?;
+    let (id, mut body) = keeper.create(alloc)?;
+    assert_eq!(rt; id, BodyId(1));
+    body.append(alloc, b"xyz".as_slice())?;
+    Ok(())
+}
+
+// The head and the bodies that `fill` left.
+fn finds_all(
+    rt: &impl Abort,
+    alloc: Global,
+    keeper: &mut FolderKeeper<HostRuntime>,
+) -> Result<(), Fail> {
+    assert_eq!(rt; keeper.next_id(), 2);
+    let heads = keeper.list_heads(alloc)?;
+    assert_eq!(rt; heads.len(), 1);
+    let (id, bytes) = heads.get(0);
+    assert_eq!(rt; id, BodyId(0));
+    assert_eq!(rt; bytes, b"the head".as_slice());
+    let bodies = keeper.list_bodies(alloc)?;
+    assert_eq!(rt; bodies.len(), 2);
+    assert_eq!(rt; bodies.get(0), BodyId(0));
+    assert_eq!(rt; bodies.get(1), BodyId(1));
+    let mut body = keeper.fetch_body(alloc, BodyId(0))?;
+    let mut buf = [0u8; 16];
+    assert_eq!(rt; body.read_at(0, &mut buf)?, 9);
+    assert_eq!(rt; &buf[..9], b"abcdefghi".as_slice());
+    Ok(())
+}
+
+// Names that are no file's of the folder.
+fn add_foreign(rt: &HostRuntime, folder: &str) -> Result<(), Fail> {
+    let alloc = rt.alloc();
+    for name in [
+        "README",
+        "draft",
+        "b-1",
+        "b-000000000000000A",
+        "h-00000000000000000",
+        "b-8000000000000000",
+        "h-8000000000000000",
+    ] {
+        fs::write(rt, format!(in alloc; "{folder}/{name}")?, "foreign")?;
+    }
+    Ok(())
+}
+
+fn count_files(rt: &HostRuntime, folder: &str) -> Result<u64, Fail> {
+    let mut count = 0u64;
+    for entry in fs::read_dir(rt, folder)? {
+        let _ = entry?;
+        count = count.saturating_add(1);
+    }
+    Ok(count)
+}
+
+fn is_locked(rt: &HostRuntime, folder: &str) -> Result<bool, Fail> {
+    match FolderKeeper::new(rt.clone()?, rt.alloc(), folder) {
+        Err(OpenFault::Locked) => Ok(true),
+        _ => Ok(false),
+    }
+}
+
+#[test]
+fn a_folder_keeps_what_was_sealed_and_put(rt: HostRuntime) -> Result<(), Fail> {
+    let alloc = rt.alloc();
+    let folder = no_folder(&rt)?;
+    let mut keeper = FolderKeeper::new(rt.clone()?, alloc, folder.as_str())?;
+    assert_eq!(rt; keeper.next_id(), 0);
+    fill(&rt, alloc, &mut keeper)?;
+    finds_all(&rt, alloc, &mut keeper)?;
+    assert_eq!(rt; count_files(&rt, folder.as_str())?, 3);
+    assert!(rt; is_locked(&rt, folder.as_str())?);
+    assert_eq!(rt; count_files(&rt, folder.as_str())?, 3);
+    drop(keeper);
+
+    add_foreign(&rt, folder.as_str())?;
+    let mut keeper = FolderKeeper::new(rt.clone()?, alloc, folder.as_str())?;
+    finds_all(&rt, alloc, &mut keeper)?;
+    keeper.remove_body(alloc, BodyId(1))?;
+    keeper.remove_head(alloc, BodyId(0))?;
+    keeper.remove_head(alloc, BodyId(0))?;
+    keeper.remove_body(alloc, BodyId(0))?;
+    keeper.remove_body(alloc, BodyId(0))?;
+    assert_eq!(rt; keeper.list_heads(alloc)?.len(), 0);
+    assert_eq!(rt; keeper.list_bodies(alloc)?.len(), 0);
+    assert_eq!(rt; count_files(&rt, folder.as_str())?, 7);
+    drop(keeper);
+    fs::remove_dir_all(&rt, folder.as_str())?;
     Ok(())
 }
