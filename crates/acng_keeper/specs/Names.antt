@@ -9,6 +9,10 @@ abbrev pub prefix_of : Kind → List ℕ
 prefix_of Body = codes "b-"
 prefix_of Head = codes "h-"
 
--- the kind, and the id in 16 lower-case hexadecimal digits
+-- an id in 16 lower-case hexadecimal digits
+abbrev pub digits_of : ℕ → List ℕ
+digits_of id = encode_lower (to_be_bytes w64 id)
+
+-- the kind and the id
 abbrev pub name_of : Kind → ℕ → List ℕ
-name_of kind id = prefix_of kind ++ encode_lower (to_be_bytes w64 id)
+name_of kind id = prefix_of kind ++ digits_of id

@@ -1,9 +1,12 @@
 -- How what a stop may leave goes on from call to call.
-use Rattle.std.specs.Prelude.{◌≡◌, ℕ, Bool, true, false, zero, suc, List, [], ◌∷◌, ◌++◌, length, take, drop}
+use Rattle.std.specs.Prelude.{◌≡◌, is_some, ℕ, Bool, true, false, zero, suc, List, [], ◌∷◌, ◌++◌, length, take, drop}
+use mathlib.Core.Bool.{true≢false}
 use mathlib.Core.Path.{refl, sym, ap, subst, ◌∙◌}
 use mathlib.Core.Logic.{inl, inr}
+use Rattle.std.specs.Ordering.{nat_cmp}
+use Rattle.std.specs.FinMap as map
 use Rattle.acng_keeper.specs.declared.effect.Effect.{Effect}
-use Rattle.acng_keeper.specs.Kept.{Kept, Stored, stored, changed_by, after, MayCome, Removes}
+use Rattle.acng_keeper.specs.Kept.{Kept, Stored, stored, changed_by, after, without_loose, MayCome, Removes}
 use Rattle.acng_keeper.specs.Images.{changed, Along, IsAlong, LeavesOnly, Goes, since, IsImage}
 
 append_nil : {A : Type 0} (xs : List A) → xs ++ [] ≡ xs
@@ -123,3 +126,15 @@ pub image_has : {P : Stored → Type 0} {old new image : Kept} {old_next new_nex
 image_has {P} {old} {new} {image} l i =
     let same : since old new ≡ l.since = ap (drop (length old.trail)) l.trail ∙ drop_front old.trail l.since in
     each_image P l.since i.count (stored old) (stored image) l.each (i.made ∙ ap (λ es. changed (take i.count es) (stored old)) same)
+
+nothing_there : (id : ℕ) → map.contains_key {X = Unit {0}} {R = nat_cmp} map.empty id ≡ true → ⊥
+nothing_there id had = true≢false (sym (sym (ap is_some (map.get-empty {X = Unit {0}} nat_cmp id)) ∙ had))
+
+-- without its unsealed bodies it is an image of itself
+pub image_at_rest : (k image : Kept) (next : ℕ) → image ≡ without_loose k → IsImage k k next next image
+image_at_rest k image next is = subst (λ i. IsImage k k next next i) (sym is) (record {
+  count = 0;
+  made = refl;
+  loose = λ id had. absurd (nothing_there id had);
+  unsealed = λ id had. absurd (nothing_there id had);
+})

@@ -5,8 +5,9 @@
 //! and renamed. The head itself isn't synced: one that a power failure loses or tears is only a body that is fetched
 //! again, since a torn head doesn't read, while a good head over other bytes must never be.
 //!
-//! One keeper at a time has the folder: it holds a lock on the folder's own handle. Bodies are read and written at
-//! places, each by one system call.
+//! One keeper at a time has the folder: it holds a lock on the folder's own handle. The folder is synced as it is
+//! opened: an id is used a second time only after that, and a removed head must not come back over another body.
+//! Bodies are read and written at places, each by one system call.
 #![tactic(auto, using(crate::proofs::Below::below))]
 
 ghost use Rattle.std.specs.Prelude.{◌≡◌, ◌+◌, ◌-◌, ◌<◌, ◌≤◌, ◌^◌, [], Bool, true, false, ℕ, length, IfOk, OnOk, OnErr, IfErr, IfSome, min, max};
@@ -82,6 +83,14 @@ fn fault(calls: &mut Account, number: u64, trouble: Trouble) -> KeepFault<CallSl
     }
 }
 
+// Where a body's data is.
+#[derive(Clone, Copy, Debug, PartialEq, Eq)]
+enum Data {
+    Written,
+    Synced,
+    Lost,
+}
+
 /// A body in a file.
 #[derive(Drop)]
 pub struct FolderBody {
@@ -89,21 +98,27 @@ pub struct FolderBody {
     number: u64,
     len: u64,
     writable: bool,
-    sealed: bool,
+    data_is: Data,
     calls: Account,
 }
 
 impl FolderBody {
-    // Cuts the file at the length and syncs its data. A sealed body has that behind it.
+    // Cuts the file at the length and syncs its data. After a sync that failed the system may have dropped pages, and
+    // the next sync would say nothing of them: so the body is lost then.
     fn settle(&mut self) -> Result<(), Trouble>
-        ensures { self.new ≡ record self.old { sealed = self.new.sealed } }
+        ensures { self.new ≡ record self.old { data_is = self.new.data_is } }
     {
-        if !self.sealed {
-            self.file.set_len(self.len)?;
-            self.file.sync_data()?;
-            self.sealed = true;
+        match self.data_is {
+            Data::Synced => Ok(()),
+            Data::Lost => Err(Trouble::Failed),
+            Data::Written => {
+                self.file.set_len(self.len)?;
+                self.data_is = Data::Lost;
+                self.file.sync_data()?;
+                self.data_is = Data::Synced;
+                Ok(())
+            }
         }
-        Ok(())
     }
 }
 
@@ -177,12 +192,18 @@ pub struct FolderKeeper<R: Files<File = File> + AllocGlobal + Clone + Drop> {
 }
 
 impl<R: Files<File = File> + AllocGlobal + Clone + Drop> FolderKeeper<R> {
-    /// Opens a folder, and makes it where it isn't there. A folder that another keeper has is refused untouched.
-    pub fn new(rt: R, alloc: Global, folder: &str) -> Result<FolderKeeper<R>, OpenFault> {
+    /// Opens a folder, and makes it where it isn't there. A folder that another keeper has is refused untouched. The
+    /// next id is one above the greatest in the folder.
+    pub fn new(rt: R, alloc: Global, folder: &str) -> Result<FolderKeeper<R>, OpenFault>
+        ensures { IfOk result (λ keeper. ⟦<FolderKeeper<R> as Keeper>⟧.faults keeper ≡ none_yet true) }
+    {
         if let Err(error) = fs::create_dir_all(&rt, folder) {
             return Err(open_fault(Trouble::from(error)));
         }
         let lock = lock(&rt, folder)?;
+        if let Err(error) = lock.sync_all() {
+            return Err(open_fault(Trouble::from(error)));
+        }
         let next = match next_in(&rt, folder) {
             Ok(next) => next,
             Err(trouble) => return Err(open_fault(trouble)),
@@ -218,7 +239,7 @@ impl<R: Files<File = File> + AllocGlobal + Clone + Drop> FolderKeeper<R> {
             number: self.next,
             len: 0,
             writable: true,
-            sealed: false,
+            data_is: Data::Written,
             calls,
         })
     }
@@ -238,7 +259,7 @@ impl<R: Files<File = File> + AllocGlobal + Clone + Drop> FolderKeeper<R> {
             number: id,
             len,
             writable: false,
-            sealed: true,
+            data_is: Data::Synced,
             calls,
         })
     }

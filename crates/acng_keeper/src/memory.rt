@@ -9,6 +9,7 @@ ghost use Rattle.std.specs.Io.{ReadsAtMost};
 ghost use Rattle.std.specs.FinMap as map;
 ghost use Rattle.std.specs.List.Sorted.{IsStrictlySortedBy};
 ghost use Rattle.std.specs.Ordering.{nat_cmp};
+ghost use Rattle.acng_keeper.specs.Images.{IsImage};
 ghost use Rattle.acng_keeper.specs.Kept.{IdsBelow, AreApart, IsSound, nothing, without_loose};
 ghost use Rattle.acng_keeper.specs.Lists.{ListsBodies};
 ghost use Rattle.acng_keeper.specs.Slips.{HasFailed, Later, none_yet};
@@ -138,6 +139,7 @@ impl MemoryKeeper {
         ensures kept { ⟦<MemoryKeeper as Keeper>⟧.kept result ≡ without_loose (⟦<MemoryKeeper as Keeper>⟧.kept self) }
         ensures next { ⟦<MemoryKeeper as Keeper>⟧.next result ≡ ⟦<MemoryKeeper as Keeper>⟧.next self }
         ensures faults { ⟦<MemoryKeeper as Keeper>⟧.faults result ≡ none_yet false }
+        ensures image { IsImage (⟦<MemoryKeeper as Keeper>⟧.kept self) (⟦<MemoryKeeper as Keeper>⟧.kept self) (⟦<MemoryKeeper as Keeper>⟧.next self) (⟦<MemoryKeeper as Keeper>⟧.next self) (⟦<MemoryKeeper as Keeper>⟧.kept result) }
     {
         let MemoryKeeper {
             heads,

@@ -1,9 +1,7 @@
 //! The names of a cache folder's files: `b-` for a body and `h-` for a head, and the id in 16 lower-case hexadecimal
 //! digits. All other names are foreign, and so are ids of 2^63 and above.
-ghost use Rattle.std.specs.Prelude.{◌≡◌, ◌↔◌, ◌++◌, ◌^◌, ◌<◌, ◌∷◌, [], length, drop, IfOk, IfSome, IsTrue, Some, string_bytes};
-ghost use Rattle.std.specs.Int.{w64, to_be_bytes};
-ghost use Rattle.hex.specs.Hex.{encode_lower};
-ghost use Rattle.acng_keeper.specs.Names.{name_of, prefix_of};
+ghost use Rattle.std.specs.Prelude.{◌≡◌, ◌↔◌, ◌++◌, ◌^◌, ◌<◌, ◌∷◌, [], ℕ, IfOk, IfSome, IsTrue, Some, string_bytes};
+ghost use Rattle.acng_keeper.specs.Names.{digits_of, name_of, prefix_of};
 
 use acng_base::NoMemory;
 use hex::FromHex;
@@ -51,21 +49,35 @@ pub fn path_in(alloc: Global, folder: &str, kind: Kind, id: u64) -> Result<Strin
 
 /// The id of a name of this kind. None where the name is foreign.
 pub fn id_of(kind: Kind, name: &[u8]) -> Option<u64>
-    ensures { IfSome result (λ id. (id < 2 ^ 63) × (name.now ≡ name_of kind id)) }
+    ensures reads { IfSome result (λ id. (id < 2 ^ 63) × (name.now ≡ name_of kind id)) }
+    ensures all { (id : ℕ) → id < 2 ^ 63 → name.now ≡ name_of kind id → result ≡ Some id }
 {
-    let digits = name.strip_prefix(kind.prefix().as_bytes())?;
-    let bytes = <[u8; 8] as FromHex>::from_hex(digits).ok()?;
+    let Some(digits) = name.strip_prefix(kind.prefix().as_bytes()) else {
+        return None;
+    };
+    id_of_digits(digits)
+}
+
+fn id_of_digits(digits: &[u8]) -> Option<u64>
+    ensures reads { IfSome result (λ id. (id < 2 ^ 63) × (digits.now ≡ digits_of id)) }
+    ensures all { (id : ℕ) → id < 2 ^ 63 → digits.now ≡ digits_of id → result ≡ Some id }
+{
+    let Ok(bytes) = <[u8; 8] as FromHex>::from_hex(digits) else {
+        return None;
+    };
     let id = u64::from_be_bytes(bytes);
-    if id < 1 << 63 && is_spelled(id, digits) {
-        Some(id)
-    } else {
-        None
+    if id >= 1 << 63 {
+        return None;
     }
+    if !is_spelled(id, digits) {
+        return None;
+    }
+    Some(id)
 }
 
 // Whether the id is written so: there is one spelling.
 fn is_spelled(id: u64, digits: &[u8]) -> bool
-    ensures { IsTrue result ↔ (digits.now ≡ encode_lower (to_be_bytes w64 id)) }
+    ensures { IsTrue result ↔ (digits.now ≡ digits_of id) }
 {
     let mut spelled = [0u8; 16];
     match hex::encode_to_slice(id.to_be_bytes(), &mut spelled) {

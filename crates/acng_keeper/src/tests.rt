@@ -267,6 +267,9 @@ fn each_call_fails_in_turn_and_the_script_goes_on(rt: HostRuntime) -> Result<(),
     Ok(())
 }
 
+// A keeper stands behind one lock and a body behind another, in threads of their own.
+fn can_be_sent<T: Send>(_: &T) {}
+
 // A folder that isn't there yet.
 fn no_folder(rt: &HostRuntime) -> Result<String, Fail> {
     let alloc = rt.alloc();
@@ -286,6 +289,7 @@ fn fill(
     assert!(rt; keeper.next_id() < 1 << 62);
     let (id, mut body) = keeper.create(alloc)?;
     assert_eq!(rt; id, BodyId(0));
+    can_be_sent(&body);
     body.append(alloc, b"abc".as_slice())?;
     body.append(alloc, b"def".as_slice())?;
     body.append(alloc, b"ghi".as_slice())?;
@@ -368,6 +372,7 @@ fn a_folder_keeps_what_was_sealed_and_put(rt: HostRuntime) -> Result<(), Fail> {
     let folder = no_folder(&rt)?;
     let mut keeper = FolderKeeper::new(rt.clone()?, alloc, folder.as_str())?;
     assert_eq!(rt; keeper.next_id(), 0);
+    can_be_sent(&keeper);
     fill(&rt, alloc, &mut keeper)?;
     finds_all(&rt, alloc, &mut keeper)?;
     assert_eq!(rt; count_files(&rt, folder.as_str())?, 3);
@@ -388,5 +393,15 @@ fn a_folder_keeps_what_was_sealed_and_put(rt: HostRuntime) -> Result<(), Fail> {
     assert_eq!(rt; count_files(&rt, folder.as_str())?, 7);
     drop(keeper);
     fs::remove_dir_all(&rt, folder.as_str())?;
+    Ok(())
+}
+
+#[test]
+fn keepers_and_bodies_go_to_other_threads(rt: HostRuntime) -> Result<(), Fail> {
+    let alloc = rt.alloc();
+    let mut keeper = MemoryKeeper::new(alloc, &[])?;
+    let (_, body) = keeper.create(alloc)?;
+    can_be_sent(&keeper);
+    can_be_sent(&body);
     Ok(())
 }
