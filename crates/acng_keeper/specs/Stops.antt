@@ -1,5 +1,5 @@
 -- How what a stop may leave goes on from call to call.
-use Rattle.std.specs.Prelude.{◌≡◌, is_some, ℕ, Bool, true, false, zero, suc, List, [], ◌∷◌, ◌++◌, length, take, drop}
+use Rattle.std.specs.Prelude.{◌≡◌, ◌⊎◌, is_some, ℕ, Bool, true, false, zero, suc, List, [], ◌∷◌, ◌++◌, length, take, drop}
 use mathlib.Core.Bool.{true≢false}
 use mathlib.Core.Path.{refl, sym, ap, subst, ◌∙◌}
 use mathlib.Core.Logic.{inl, inr}
@@ -138,3 +138,7 @@ image_at_rest k image next is = subst (λ i. IsImage k k next next i) (sym is) (
   loose = λ id had. absurd (nothing_there id had);
   unsealed = λ id had. absurd (nothing_there id had);
 })
+
+-- what a stop in or after one call leaves: its entry as before or after it, and all else as it was
+pub one_call : (e : Effect) (old new image : Kept) (old_next new_next : ℕ) → MayCome e old new → IsImage old new old_next new_next image → (stored image ≡ stored old) ⊎ (stored image ≡ changed_by e (stored old))
+one_call e old new image old_next new_next may i = image_has (may_come (λ t. (t ≡ stored old) ⊎ (t ≡ changed_by e (stored old))) e old new (inl refl) (inr refl) may) i

@@ -8,26 +8,25 @@
 //! One keeper at a time has the folder: it holds a lock on the folder's own handle. The folder is synced as it is
 //! opened: an id is used a second time only after that, and a removed head must not come back over another body.
 //! Bodies are read and written at places, each by one system call.
-#![tactic(auto, using(crate::proofs::Below::below))]
-
-ghost use Rattle.std.specs.Prelude.{◌≡◌, ◌+◌, ◌-◌, ◌<◌, ◌≤◌, ◌^◌, [], Bool, true, false, ℕ, length, IfOk, OnOk, OnErr, IfErr, IfSome, min, max};
-ghost use Rattle.std.specs.Io.{ReadsAtMost};
-ghost use Rattle.acng_keeper.specs.Kept.{IdsBelow, nothing};
+ghost use Rattle.std.specs.Prelude.{◌≡◌, ◌≤◌, ◌^◌, true, false, IfOk};
 ghost use Rattle.std.specs.Map.{keys_of};
+ghost use Rattle.acng_keeper.specs.Kept.{nothing};
 ghost use Rattle.acng_keeper.specs.Lists.{AllBelow};
-ghost use Rattle.acng_keeper.specs.Slips.{HasFailed, Later, SlipRose, none_yet};
+ghost use Rattle.acng_keeper.specs.Slips.{none_yet};
 ghost use mathlib.Core.Bool.{true≢false};
 ghost use mathlib.Core.Path.{sym};
 
-use crate::body::{BodyFile, BodyId};
+use crate::body::BodyId;
 use crate::calls::{Account, CallSlip};
+use crate::folder_file::{Data, FolderBody};
+use crate::folder_scan::{bodies_in, heads_in, next_in};
 use crate::keeper::Keeper;
 use crate::lists::{Heads, Ids};
-use crate::names::{Kind, id_of, path_in};
-use crate::shelf::Shelf;
+use crate::names::{Kind, path_in};
 use crate::slip::KeepFault;
-use acng_base::{NoMemory, Text};
-use std::alloc::{AllocError, AllocFailed, Global};
+use crate::trouble::{Trouble, fault};
+use acng_base::NoMemory;
+use std::alloc::{AllocError, Global};
 use std::fs::{File, TryLockError};
 use std::io::ErrorKind;
 use std::os::unix::fs::FileExt;
@@ -44,138 +43,30 @@ pub enum OpenFault {
     NoMemory,
 }
 
-// Why work on the folder ended early.
-#[derive(Debug, Drop)]
-enum Trouble {
-    Failed,
-    NoMemory,
-}
-
-impl From<io::Error> for Trouble {
-    fn from(error: io::Error) -> Trouble {
-        match error.kind() {
-            ErrorKind::OutOfMemory => Trouble::NoMemory,
-            _ => Trouble::Failed,
+impl From<Trouble> for OpenFault {
+    fn from(trouble: Trouble) -> OpenFault {
+        match trouble {
+            Trouble::Failed => OpenFault::Failed,
+            Trouble::NoMemory => OpenFault::NoMemory,
         }
     }
 }
 
-impl From<NoMemory> for Trouble {
-    fn from(_: NoMemory) -> Trouble {
-        Trouble::NoMemory
+impl From<io::Error> for OpenFault {
+    fn from(error: io::Error) -> OpenFault {
+        OpenFault::from(Trouble::from(error))
     }
 }
 
-impl From<AllocError> for Trouble {
-    fn from(_: AllocError) -> Trouble {
-        Trouble::NoMemory
+impl From<NoMemory> for OpenFault {
+    fn from(_: NoMemory) -> OpenFault {
+        OpenFault::NoMemory
     }
 }
 
-// What a call answers to trouble.
-fn fault(calls: &mut Account, number: u64, trouble: Trouble) -> KeepFault<CallSlip>
-    ensures cause { SlipRose result calls.old calls.new }
-    ensures later { Later calls.old calls.new }
-{
-    match trouble {
-        Trouble::Failed => KeepFault::Slip(calls.fail(number)),
-        Trouble::NoMemory => KeepFault::NoMemory,
-    }
-}
-
-// Where a body's data is.
-#[derive(Clone, Copy, Debug, PartialEq, Eq)]
-enum Data {
-    Written,
-    Synced,
-    Lost,
-}
-
-/// A body in a file.
-#[derive(Drop)]
-pub struct FolderBody {
-    file: File,
-    number: u64,
-    len: u64,
-    writable: bool,
-    data_is: Data,
-    calls: Account,
-}
-
-impl FolderBody {
-    // Cuts the file at the length and syncs its data. After a sync that failed the system may have dropped pages, and
-    // the next sync would say nothing of them: so the body is lost then.
-    fn settle(&mut self) -> Result<(), Trouble>
-        ensures { self.new ≡ record self.old { data_is = self.new.data_is } }
-    {
-        match self.data_is {
-            Data::Synced => Ok(()),
-            Data::Lost => Err(Trouble::Failed),
-            Data::Written => {
-                self.file.set_len(self.len)?;
-                self.data_is = Data::Lost;
-                self.file.sync_data()?;
-                self.data_is = Data::Synced;
-                Ok(())
-            }
-        }
-    }
-}
-
-impl BodyFile for FolderBody {
-    type Slip = CallSlip;
-
-    ghost tells = { false };
-
-    ghost handle = { λ b. record { number = b.number; size = b.len; bytes = []; writable = b.writable } };
-
-    ghost faults = { λ b. b.calls };
-
-    ghost sized = { λ b t. absurd (true≢false (sym t)) };
-
-    fn append(&mut self, _alloc: Global, piece: &[u8]) -> Result<(), KeepFault<CallSlip>> {
-        let number = self.calls.begin();
-        let Some(len) = self.len.checked_add(piece.len() as u64) else {
-            return Err(KeepFault::Slip(self.calls.fail(number)));
-        };
-        match self.file.write_all_at(piece, self.len) {
-            Ok(()) => {
-                self.len = len;
-                Ok(())
-            }
-            Err(_) => Err(KeepFault::Slip(self.calls.fail(number))),
-        }
-    }
-
-    fn read_at(&mut self, from: u64, buf: &mut [u8]) -> Result<usize, CallSlip> {
-        let number = self.calls.begin();
-        let most = fitting(self.len.saturating_sub(from), buf.len());
-        if most == 0 {
-            return Ok(0);
-        }
-        match self.file.read_at(&mut buf[..most], from) {
-            Ok(count) if count > 0 => Ok(count),
-            _ => Err(self.calls.fail(number)),
-        }
-    }
-
-    fn len(&self) -> u64 {
-        self.len
-    }
-
-    fn id(&self) -> BodyId {
-        BodyId(self.number)
-    }
-}
-
-// The lesser of what is there and what fits.
-fn fitting(there: u64, fits: usize) -> usize
-    ensures { result ≡ min there fits }
-{
-    if there < fits as u64 {
-        there as usize
-    } else {
-        fits
+impl From<AllocError> for OpenFault {
+    fn from(_: AllocError) -> OpenFault {
+        OpenFault::NoMemory
     }
 }
 
@@ -197,23 +88,12 @@ impl<R: Files<File = File> + AllocGlobal + Clone + Drop> FolderKeeper<R> {
     pub fn new(rt: R, alloc: Global, folder: &str) -> Result<FolderKeeper<R>, OpenFault>
         ensures { IfOk result (λ keeper. ⟦<FolderKeeper<R> as Keeper>⟧.faults keeper ≡ none_yet true) }
     {
-        if let Err(error) = fs::create_dir_all(&rt, folder) {
-            return Err(open_fault(Trouble::from(error)));
-        }
+        fs::create_dir_all(&rt, folder)?;
         let lock = lock(&rt, folder)?;
-        if let Err(error) = lock.sync_all() {
-            return Err(open_fault(Trouble::from(error)));
-        }
-        let next = match next_in(&rt, folder) {
-            Ok(next) => next,
-            Err(trouble) => return Err(open_fault(trouble)),
-        };
-        let Ok(folder) = String::from_str(alloc, folder) else {
-            return Err(OpenFault::NoMemory);
-        };
-        let Ok(calls) = Account::new(alloc) else {
-            return Err(OpenFault::NoMemory);
-        };
+        lock.sync_all()?;
+        let next = next_in(&rt, folder)?;
+        let folder = String::from_str(alloc, folder)?;
+        let calls = Account::new(alloc)?;
         Ok(FolderKeeper {
             rt,
             folder,
@@ -407,118 +287,12 @@ impl<R: Files<File = File> + AllocGlobal + Clone + Drop> Keeper for FolderKeeper
     }
 }
 
-fn open_fault(trouble: Trouble) -> OpenFault {
-    match trouble {
-        Trouble::Failed => OpenFault::Failed,
-        Trouble::NoMemory => OpenFault::NoMemory,
-    }
-}
-
 // The folder's own handle, with a lock that no other handle has.
 fn lock(rt: &impl Files<File = File>, folder: &str) -> Result<File, OpenFault> {
-    let handle = match File::open(rt, folder) {
-        Ok(handle) => handle,
-        Err(error) => return Err(open_fault(Trouble::from(error))),
-    };
+    let handle = File::open(rt, folder)?;
     match handle.try_lock() {
         Ok(()) => Ok(handle),
         Err(TryLockError::WouldBlock) => Err(OpenFault::Locked),
-        Err(TryLockError::Error(error)) => Err(open_fault(Trouble::from(error))),
+        Err(TryLockError::Error(error)) => Err(OpenFault::from(error)),
     }
-}
-
-// One above the greatest id in the folder.
-fn next_in<R: Files<File = File> + AllocGlobal + Clone + Drop>(
-    rt: &R,
-    folder: &str,
-) -> Result<u64, Trouble>
-    ensures { IfOk result (λ next. next ≤ 2 ^ 63) }
-{
-    let mut next = 0;
-    for entry in fs::read_dir(rt, folder)? {
-        let entry = entry?;
-        if let Some(id) = any_id(entry.file_name()) {
-            next = above(next, id);
-        }
-    }
-    Ok(next)
-}
-
-// The id of a body or a head.
-fn any_id(name: &str) -> Option<u64>
-    ensures { IfSome result (λ id. id < 2 ^ 63) }
-{
-    match id_of(Kind::Body, name.as_bytes()) {
-        Some(id) => Some(id),
-        None => id_of(Kind::Head, name.as_bytes()),
-    }
-}
-
-// At least one above the id.
-fn above(next: u64, id: u64) -> u64
-    requires { id < 2 ^ 63 }
-    ensures { result ≡ max next (id + 1) }
-{
-    next.max(id + 1)
-}
-
-// The heads with ids below the next.
-fn heads_in<R: Files<File = File> + AllocGlobal + Clone + Drop>(
-    rt: &R,
-    alloc: Global,
-    folder: &str,
-    next: u64,
-) -> Result<Shelf<Text>, Trouble>
-    ensures { IfOk result (λ heads. IdsBelow next heads) }
-{
-    let mut heads = Shelf::new(alloc);
-    for entry in fs::read_dir(rt, folder)? {
-        let entry = entry?;
-        if let Some(id) = id_below(Kind::Head, entry.file_name(), next) {
-            let file = File::open(rt, entry.path())?;
-            heads.put(id, whole(alloc, &file)?)?;
-        }
-    }
-    Ok(heads)
-}
-
-// The ids of bodies below the next.
-fn bodies_in<R: Files<File = File> + AllocGlobal + Clone + Drop>(
-    rt: &R,
-    alloc: Global,
-    folder: &str,
-    next: u64,
-) -> Result<Shelf<()>, Trouble>
-    ensures { IfOk result (λ bodies. IdsBelow next bodies) }
-{
-    let mut bodies = Shelf::new(alloc);
-    for entry in fs::read_dir(rt, folder)? {
-        let entry = entry?;
-        if let Some(id) = id_below(Kind::Body, entry.file_name(), next) {
-            bodies.put(id, ())?;
-        }
-    }
-    Ok(bodies)
-}
-
-// The id of a name of this kind, if it is below the next.
-fn id_below(kind: Kind, name: &str, next: u64) -> Option<u64>
-    ensures { IfSome result (λ id. id < next) }
-{
-    let id = id_of(kind, name.as_bytes())?;
-    if id < next { Some(id) } else { None }
-}
-
-// All bytes of a head's file.
-fn whole(alloc: Global, file: &File) -> Result<Text, Trouble> {
-    let mut bytes = Vec::new(alloc);
-    let mut buf = [0u8; 4096];
-    for _ in 0..u64::MAX {
-        let count = file.read_at(&mut buf, bytes.len() as u64)?;
-        bytes.extend_from_slice(&buf[..count])?;
-        if count < buf.len() {
-            break;
-        }
-    }
-    Ok(Text::of(bytes))
 }

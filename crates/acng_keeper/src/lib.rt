@@ -8,6 +8,8 @@ pub mod body;
 pub mod calls;
 pub mod effect;
 pub mod folder;
+pub mod folder_file;
+mod folder_scan;
 pub mod keeper;
 pub mod lists;
 pub mod memory;
@@ -16,11 +18,13 @@ mod shelf;
 pub mod slip;
 #[cfg(test)]
 mod tests;
+mod trouble;
 
 pub use body::{BodyFile, BodyId};
 pub use calls::CallSlip;
 pub use effect::Effect;
-pub use folder::{FolderBody, FolderKeeper, OpenFault};
+pub use folder::{FolderKeeper, OpenFault};
+pub use folder_file::FolderBody;
 pub use keeper::{Keeper, SlipOf};
 pub use lists::{Heads, Ids};
 pub use memory::{MemoryBody, MemoryKeeper};

@@ -66,6 +66,24 @@ fn the_fourth_call_fails_and_its_body_comes_back(rt: HostRuntime) -> Result<(), 
     Ok(())
 }
 
+#[test]
+fn a_stop_drops_unsealed_bodies_alone(rt: HostRuntime) -> Result<(), Fail> {
+    let alloc = rt.alloc();
+    let mut keeper = MemoryKeeper::new(alloc, &[5])?;
+    let (id, body) = keeper.create(alloc)?;
+    assert!(rt; keeper.seal(alloc, id, body).is_ok());
+    keeper.put_head(alloc, id, b"head".as_slice())?;
+    let _ = keeper.create(alloc)?;
+    assert_eq!(rt; keeper.list_bodies(alloc)?.len(), 2);
+    let mut keeper = keeper.after_stop();
+    assert_eq!(rt; keeper.next_id(), 2);
+    assert_eq!(rt; keeper.list_heads(alloc)?.len(), 1);
+    let bodies = keeper.list_bodies(alloc)?;
+    assert_eq!(rt; bodies.len(), 1);
+    assert_eq!(rt; bodies.get(0), id);
+    Ok(())
+}
+
 // The number of the call that fails, and how many calls failed so far.
 #[derive(Drop)]
 struct Failing {
