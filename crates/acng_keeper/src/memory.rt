@@ -1,0 +1,345 @@
+//! A keeper over memory, for tests: it tells what it has, and its calls fail on demand.
+//!
+//! A call that fails has done nothing. A call with an effect takes all its memory before it changes anything, so that
+//! want of memory leaves everything as it was too.
+#![tactic(auto, using(crate::proofs::Below::below))]
+
+ghost use Rattle.std.specs.Prelude.{◌≡◌, ◌||◌, ◌+◌, ◌<◌, ◌≤◌, ◌-◌, ◌^◌, ◌++◌, Bool, true, false, List, ℕ, [], ◌∷◌, length, nat_lt, min, take, drop, IfOk, OnOk, OnErr, IfErr, Some, None, refl};
+ghost use Rattle.std.specs.Io.{ReadsAtMost};
+ghost use Rattle.std.specs.FinMap as map;
+ghost use Rattle.std.specs.List.Sorted.{IsStrictlySortedBy};
+ghost use Rattle.std.specs.Ordering.{nat_cmp};
+ghost use Rattle.acng_keeper.specs.Images.{IsImage};
+ghost use Rattle.acng_keeper.specs.Kept.{IdsBelow, AreApart, IsSound, nothing, without_loose};
+ghost use Rattle.acng_keeper.specs.Lists.{ListsBodies};
+ghost use Rattle.acng_keeper.specs.Slips.{HasFailed, Later, none_yet};
+ghost use Rattle.acng_keeper.specs.declared.effect.Effect.TheVariants.{Sealed, HeadPut, HeadRemoved, BodyRemoved};
+
+use crate::body::{BodyFile, BodyId};
+use crate::calls::{CallSlip, Calls};
+use crate::effect::Effect;
+use crate::keeper::Keeper;
+use crate::lists::{Heads, Ids};
+use crate::shelf::Shelf;
+use crate::slip::KeepFault;
+use acng_base::{NoMemory, Text};
+use std::alloc::Global;
+
+/// A body in memory. Its handle owns the bytes.
+#[derive(Drop)]
+pub struct MemoryBody {
+    number: u64,
+    bytes: Vec<u8>,
+    writable: bool,
+    calls: Calls,
+}
+
+impl BodyFile for MemoryBody {
+    type Slip = CallSlip;
+
+    ghost tells = { true };
+
+    ghost handle = { λ b. record { number = b.number; size = length b.bytes.items; bytes = b.bytes.items; writable = b.writable } };
+
+    ghost faults = { λ b. b.calls };
+
+    ghost sized = { λ b t. refl };
+
+    fn append(&mut self, _alloc: Global, piece: &[u8]) -> Result<(), KeepFault<CallSlip>> {
+        if let Err(slip) = self.calls.begin() {
+            return Err(KeepFault::Slip(slip));
+        }
+        let Ok(()) = self.bytes.extend_from_slice(piece) else {
+            return Err(KeepFault::NoMemory);
+        };
+        Ok(())
+    }
+
+    fn read_at(&mut self, from: u64, buf: &mut [u8]) -> Result<usize, CallSlip>
+        ensures bytes { IfOk result (λ n. take n buf.new ≡ take n (drop from (⟦<MemoryBody as BodyFile>⟧.handle self.old).bytes)) }
+        ensures fits { ReadsAtMost result buf.new }
+        ensures there { IfOk result (λ n. n ≤ (⟦<MemoryBody as BodyFile>⟧.handle self.old).size - from) }
+        ensures some { IfOk result (λ n. from < (⟦<MemoryBody as BodyFile>⟧.handle self.old).size → 0 < length buf.new → 0 < n) }
+        ensures cause { OnErr result (HasFailed (⟦<MemoryBody as BodyFile>⟧.faults self.old) (⟦<MemoryBody as BodyFile>⟧.faults self.new)) }
+        ensures same { ⟦<MemoryBody as BodyFile>⟧.handle self.new ≡ ⟦<MemoryBody as BodyFile>⟧.handle self.old }
+        ensures later { Later (⟦<MemoryBody as BodyFile>⟧.faults self.old) (⟦<MemoryBody as BodyFile>⟧.faults self.new) }
+
+        // As many bytes as are there and fit.
+        ensures exact { IfOk result (λ n. n ≡ min ((⟦<MemoryBody as BodyFile>⟧.handle self.old).size - from) (length buf.old)) }
+    {
+        if let Err(slip) = self.calls.begin() {
+            return Err(slip);
+        }
+        Ok(copy_from(self.bytes.as_slice(), from, buf))
+    }
+
+    fn len(&self) -> u64 {
+        self.bytes.len() as u64
+    }
+
+    fn id(&self) -> BodyId {
+        BodyId(self.number)
+    }
+}
+
+// Copies from a place on, as many bytes as are there and fit.
+fn copy_from(bytes: &[u8], from: u64, buf: &mut [u8]) -> usize
+    ensures count { result ≡ min (length bytes.now - from) (length buf.old) }
+    ensures len { length buf.new ≡ length buf.old }
+    ensures bytes { take result buf.new ≡ take result (drop from bytes.now) }
+{
+    if from >= bytes.len() as u64 {
+        return 0;
+    }
+    let rest = &bytes[from as usize..];
+    let count = rest.len().min(buf.len());
+    buf[..count].copy_from_slice(&rest[..count]);
+    count
+}
+
+/// A keeper in memory.
+#[derive(Drop)]
+pub struct MemoryKeeper {
+    heads: Shelf<Text>,
+    bodies: Shelf<Text>,
+    loose: Shelf<()>,
+    next: u64,
+    taken: u64,
+    trail: Vec<Effect>,
+    calls: Calls,
+    ghost heads_below: { IdsBelow next heads },
+    ghost bodies_below: { IdsBelow next bodies },
+    ghost loose_below: { IdsBelow next loose },
+    ghost apart: { AreApart bodies loose },
+    ghost bounded: { next ≤ 2 ^ 63 },
+}
+
+impl MemoryKeeper {
+    /// An empty keeper. Its calls and those of its bodies are numbered together from 0, and those with a number in
+    /// `fail` fail; `next_id`, `len` and `id` don't count.
+    pub fn new(alloc: Global, fail: &[u64]) -> Result<MemoryKeeper, NoMemory>
+        ensures empty { IfOk result (λ keeper. ⟦<MemoryKeeper as Keeper>⟧.kept keeper ≡ nothing) }
+        ensures first { IfOk result (λ keeper. ⟦<MemoryKeeper as Keeper>⟧.next keeper ≡ 0) }
+        ensures faults { IfOk result (λ keeper. ⟦<MemoryKeeper as Keeper>⟧.faults keeper ≡ none_yet (nat_lt 0 (length fail.now))) }
+    {
+        let calls = Calls::new(alloc, fail)?;
+        Ok(MemoryKeeper {
+            heads: Shelf::new(alloc),
+            bodies: Shelf::new(alloc),
+            loose: Shelf::new(alloc),
+            next: 0,
+            taken: 0,
+            trail: Vec::new(alloc),
+            calls,
+        })
+    }
+
+    /// The keeper as a start after a stop finds it: without its unsealed bodies. No call of it fails.
+    pub fn after_stop(self) -> MemoryKeeper
+        ensures kept { ⟦<MemoryKeeper as Keeper>⟧.kept result ≡ without_loose (⟦<MemoryKeeper as Keeper>⟧.kept self) }
+        ensures next { ⟦<MemoryKeeper as Keeper>⟧.next result ≡ ⟦<MemoryKeeper as Keeper>⟧.next self }
+        ensures faults { ⟦<MemoryKeeper as Keeper>⟧.faults result ≡ none_yet false }
+        ensures image { IsImage (⟦<MemoryKeeper as Keeper>⟧.kept self) (⟦<MemoryKeeper as Keeper>⟧.kept self) (⟦<MemoryKeeper as Keeper>⟧.next self) (⟦<MemoryKeeper as Keeper>⟧.next self) (⟦<MemoryKeeper as Keeper>⟧.kept result) }
+    {
+        let MemoryKeeper {
+            heads,
+            bodies,
+            mut loose,
+            next,
+            taken,
+            trail,
+            calls,
+        } = self;
+        loose.clear();
+        MemoryKeeper {
+            heads,
+            bodies,
+            loose,
+            next,
+            taken,
+            trail,
+            calls: calls.calm(),
+        }
+    }
+}
+
+impl Keeper for MemoryKeeper {
+    type Body = MemoryBody;
+
+    ghost tells = { true };
+
+    ghost kept = { λ k. record { heads = k.heads; bodies = k.bodies; loose = k.loose; taken = k.taken; trail = k.trail.items } };
+
+    ghost next = { λ k. k.next };
+
+    ghost faults = { λ k. k.calls };
+
+    ghost body_tells = { λ t. t };
+
+    ghost bounded = { λ k. k.bounded };
+
+    ghost sound = { λ k t. record { heads = k.heads_below; bodies = k.bodies_below; loose = k.loose_below; apart = k.apart } };
+
+    fn next_id(&self) -> u64 {
+        self.next
+    }
+
+    fn create(&mut self, alloc: Global) -> Result<(BodyId, MemoryBody), KeepFault<CallSlip>> {
+        if let Err(slip) = self.calls.begin() {
+            return Err(KeepFault::Slip(slip));
+        }
+        let Ok(calls) = self.calls.share() else {
+            return Err(KeepFault::NoMemory);
+        };
+        let number = self.next;
+        let Ok(()) = self.loose.put(number, ()) else {
+            return Err(KeepFault::NoMemory);
+        };
+        self.next = number + 1;
+        let body = MemoryBody {
+            number,
+            bytes: Vec::new(alloc),
+            writable: true,
+            calls,
+        };
+        Ok((BodyId(number), body))
+    }
+
+    fn seal(
+        &mut self,
+        alloc: Global,
+        id: BodyId,
+        mut body: MemoryBody,
+    ) -> Result<MemoryBody, (KeepFault<CallSlip>, MemoryBody)> {
+        body.writable = false;
+        if let Err(slip) = self.calls.begin() {
+            return Err((KeepFault::Slip(slip), body));
+        }
+        let Ok(told) = Text::copy(alloc, body.bytes.as_slice()) else {
+            return Err((KeepFault::NoMemory, body));
+        };
+        let Ok(own) = Text::copy(alloc, body.bytes.as_slice()) else {
+            return Err((KeepFault::NoMemory, body));
+        };
+        let Ok(()) = self.trail.reserve(1) else {
+            return Err((KeepFault::NoMemory, body));
+        };
+        let Ok(()) = self.bodies.put(id.0, own) else {
+            return Err((KeepFault::NoMemory, body));
+        };
+        let _ = self.loose.remove(id.0);
+        self.trail.push_reserved(Effect::Sealed(id.0, told));
+        Ok(body)
+    }
+
+    fn fetch_body(&mut self, alloc: Global, id: BodyId) -> Result<MemoryBody, KeepFault<CallSlip>> {
+        if let Err(slip) = self.calls.begin() {
+            return Err(KeepFault::Slip(slip));
+        }
+        let Ok(calls) = self.calls.share() else {
+            return Err(KeepFault::NoMemory);
+        };
+        let Some(text) = self.bodies.get(id.0) else {
+            unreachable!();
+        };
+        let Ok(bytes) = Vec::from_slice(alloc, text.as_bytes()) else {
+            return Err(KeepFault::NoMemory);
+        };
+        let Some(taken) = self.taken.checked_add(bytes.len() as u64) else {
+            return Err(KeepFault::NoMemory);
+        };
+        self.taken = taken;
+        Ok(MemoryBody {
+            number: id.0,
+            bytes,
+            writable: false,
+            calls,
+        })
+    }
+
+    fn put_head(
+        &mut self,
+        alloc: Global,
+        id: BodyId,
+        bytes: &[u8],
+    ) -> Result<(), KeepFault<CallSlip>> {
+        if let Err(slip) = self.calls.begin() {
+            return Err(KeepFault::Slip(slip));
+        }
+        let Ok(told) = Text::copy(alloc, bytes) else {
+            return Err(KeepFault::NoMemory);
+        };
+        let Ok(own) = Text::copy(alloc, bytes) else {
+            return Err(KeepFault::NoMemory);
+        };
+        let Ok(()) = self.trail.reserve(1) else {
+            return Err(KeepFault::NoMemory);
+        };
+        let Ok(()) = self.heads.put(id.0, own) else {
+            return Err(KeepFault::NoMemory);
+        };
+        self.trail.push_reserved(Effect::HeadPut(id.0, told));
+        Ok(())
+    }
+
+    fn list_heads(&mut self, alloc: Global) -> Result<Heads, KeepFault<CallSlip>> {
+        if let Err(slip) = self.calls.begin() {
+            return Err(KeepFault::Slip(slip));
+        }
+        let Ok(list) = self.heads.list(alloc) else {
+            return Err(KeepFault::NoMemory);
+        };
+        Ok(Heads::of(list))
+    }
+
+    fn list_bodies(&mut self, alloc: Global) -> Result<Ids, KeepFault<CallSlip>> {
+        if let Err(slip) = self.calls.begin() {
+            return Err(KeepFault::Slip(slip));
+        }
+        let Ok(list) = all_ids(alloc, &self.bodies, &self.loose) else {
+            return Err(KeepFault::NoMemory);
+        };
+        Ok(Ids::of(list))
+    }
+
+    fn remove_head(&mut self, _alloc: Global, id: BodyId) -> Result<(), KeepFault<CallSlip>> {
+        if let Err(slip) = self.calls.begin() {
+            return Err(KeepFault::Slip(slip));
+        }
+        let Ok(()) = self.trail.reserve(1) else {
+            return Err(KeepFault::NoMemory);
+        };
+        if self.heads.has(id.0) {
+            let _ = self.heads.remove(id.0);
+            self.trail.push_reserved(Effect::HeadRemoved(id.0));
+        }
+        Ok(())
+    }
+
+    fn remove_body(&mut self, _alloc: Global, id: BodyId) -> Result<(), KeepFault<CallSlip>> {
+        if let Err(slip) = self.calls.begin() {
+            return Err(KeepFault::Slip(slip));
+        }
+        let Ok(()) = self.trail.reserve(1) else {
+            return Err(KeepFault::NoMemory);
+        };
+        if self.bodies.has(id.0) || self.loose.has(id.0) {
+            let _ = self.bodies.remove(id.0);
+            let _ = self.loose.remove(id.0);
+            self.trail.push_reserved(Effect::BodyRemoved(id.0));
+        }
+        Ok(())
+    }
+}
+
+// The ids of all bodies, in rising order.
+fn all_ids(alloc: Global, bodies: &Shelf<Text>, loose: &Shelf<()>) -> Result<Vec<u64>, NoMemory>
+    ensures listed { IfOk result (λ ids. ListsBodies bodies.now loose.now ids.items) }
+    ensures ordered { IfOk result (λ ids. IsStrictlySortedBy nat_cmp ids.items) }
+{
+    let mut all = Shelf::new(alloc);
+    bodies.add_ids(&mut all)?;
+    loose.add_ids(&mut all)?;
+    let ids = all.into_ids(alloc)?;
+    Ok(ids)
+}
