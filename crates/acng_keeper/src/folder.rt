@@ -59,13 +59,17 @@ impl From<io::Error> for OpenFault {
 }
 
 impl From<NoMemory> for OpenFault {
-    fn from(_: NoMemory) -> OpenFault {
+    fn from(_: NoMemory) -> OpenFault
+        ensures { result ≡ OpenFault.NoMemory }
+    {
         OpenFault::NoMemory
     }
 }
 
 impl From<AllocError> for OpenFault {
-    fn from(_: AllocError) -> OpenFault {
+    fn from(_: AllocError) -> OpenFault
+        ensures { result ≡ OpenFault.NoMemory }
+    {
         OpenFault::NoMemory
     }
 }

@@ -51,7 +51,8 @@ impl Heads {
     /// The head at a place below the length.
     pub fn get(&self, i: usize) -> (BodyId, &[u8])
         requires { i < length self.now }
-        ensures { (result.0.0, result.1.now) ≡ slice_index_or self.now i (0, []) }
+        ensures entry { (result.0.0, result.1.now) ≡ slice_index_or self.now i (0, []) }
+        ensures id { result.0.0 ≡ slice_index (keys_of self.now) i }
     {
         let (id, bytes) = &self.list[i];
         (BodyId(*id), bytes.as_bytes())
