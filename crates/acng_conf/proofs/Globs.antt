@@ -1,5 +1,5 @@
 -- The ends of a name, one after another.
-use Rattle.std.proofs.Common.{◌≡◌, ℕ, ◌+◌, ◌<◌, Bool, false, ◌||◌, List, ◌∷◌, length, drop, get_or, refl, sym, ap, ◌∙◌}
+use Rattle.std.proofs.Common.{◌≡◌, ℕ, ◌+◌, ◌<◌, Bool, false, ◌||◌, List, ◌∷◌, length, drop, get_or, sym, ap, ◌∙◌}
 use Rattle.acng_conf.specs.Globs.{some_end}
 use Rattle.acng_conf.proofs.Rows.{row}
 

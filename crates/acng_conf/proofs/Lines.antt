@@ -1,12 +1,11 @@
 -- The lines of a text and of a list file, one after another.
-use Rattle.std.proofs.Common.{◌≡◌, ℕ, ◌+◌, ◌-◌, ◌≤◌, Bool, List, [], ◌∷◌, Option, Some, None, Result, Ok, Err, cond, length, take, drop, refl, sym, ap, ◌∙◌}
+use Rattle.std.proofs.Common.{◌≡◌, ℕ, ◌+◌, ◌-◌, ◌≤◌, Bool, List, ◌∷◌, Some, None, Err, cond, length, take, drop, sym, ap, ◌∙◌}
 use Rattle.std.specs.List.{position}
 use Rattle.acng_conf.specs.Cuts.{is_lf, pieces, without_cr}
 use Rattle.acng_conf.specs.Settings.{Settings}
 use Rattle.acng_conf.specs.Readings.{and_then, at_line, after_line, after_lines}
 use Rattle.acng_conf.specs.Remaps.{Listing, after_list_line, after_list_lines}
 use Rattle.acng_conf.specs.declared.fault.ConfCause.TheVariants.{TooLong}
-use Rattle.acng_conf.specs.declared.fault.ConfFault.{ConfFault}
 use Rattle.acng_conf.specs.declared.fault.ListFile.{ListFile}
 use Rattle.acng_conf.specs.declared.place.Section.{Section}
 use Rattle.acng_conf.proofs.Cutting.{cut_rest, last_rest, some_piece}

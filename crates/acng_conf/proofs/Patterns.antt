@@ -1,9 +1,9 @@
 -- What `regex` says of a text, against its grammar.
-use Rattle.std.proofs.Common.{◌≡◌, ◌≢◌, ℕ, ◌<◌, ◌≤◌, ◌⊎◌, inl, inr, Bool, true, false, ◌&&◌, List, Option, Some, None, nat_le, length, chars, IfSome, IsSomeAnd, IsUtf8, refl, sym, ap, ◌∙◌, subst, arith}
+use Rattle.std.proofs.Common.{◌≡◌, ◌≢◌, ℕ, ◌<◌, ◌≤◌, inl, inr, Bool, true, false, List, Option, Some, None, nat_le, length, chars, IfSome, IsSomeAnd, IsUtf8, refl, ap}
 use Rattle.std.specs.Option.{option_map_or}
 use Rattle.std.specs.Str.{is_utf8}
 use Rattle.std.proofs.lemmas.Bool.{le-leb, false_from_ne_true}
-use Rattle.std.proofs.lemmas.Str.{IsUtf8-from_is_utf8, is_utf8-from_IsUtf8}
+use Rattle.std.proofs.lemmas.Str.{IsUtf8-from_is_utf8}
 use borrow.Author.Tests.{lt-leb}
 use Rattle.regex_hir.specs.declared.hir.Hir.{Hir}
 use Rattle.regex_hir.specs.Meaning.{meaning}
@@ -12,7 +12,7 @@ use Rattle.regex_syntax.specs.Grammar.{Names, read, group_count}
 use Rattle.regex_syntax.specs.declared.error.ErrorKind.{ErrorKind}
 use Rattle.regex_syntax.specs.declared.error.ErrorKind.TheVariants.{OutOfMemory}
 use Rattle.regex.specs.Patterns.{Re, SameCaptures, Config, Reads, Refuses, default_config}
-use Rattle.acng_conf.specs.Readings.{is_read, is_pattern}
+use Rattle.acng_conf.specs.Readings.{is_read}
 
 abbrev Fits : Config → Hir → Names → Nested Re × Names → Type 0
 Fits config hir names x = (x.0.depth ≤ config.nest_limit) × SameCaptures (meaning hir) x.0.value × (names ≡ x.1)

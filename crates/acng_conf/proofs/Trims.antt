@@ -1,9 +1,9 @@
 -- Blanks, a carriage return and a comment at the ends of a text.
-use Rattle.std.proofs.Common.{◌≡◌, ℕ, zero, suc, ◌+◌, ◌-◌, ◌<◌, ◌≤◌, Bool, true, false, ◌&&◌, ◌||◌, ◌==◌, List, [], ◌∷◌, ◌++◌, cond, length, take, drop, get_or, nat_lt, refl, sym, ap, ◌∙◌, arith, append_assoc}
+use Rattle.std.proofs.Common.{◌≡◌, ℕ, zero, suc, ◌+◌, ◌-◌, ◌<◌, ◌≤◌, Bool, true, false, ◌&&◌, ◌||◌, List, [], ◌∷◌, ◌++◌, cond, length, take, drop, get_or, nat_lt, refl, sym, ap, ◌∙◌, arith, append_assoc}
 use Rattle.std.proofs.Math.Seq.{take-suc, drop-cons, drop-length}
 use Rattle.std.proofs.lemmas.Grind.{common_steps}
 use Rattle.std.proofs.lemmas.List.{length-drop}
-use Rattle.acng_conf.specs.Cuts.{is_blank, is_cr, is_empty, is_before, begins_with, before_blanks, drop_blanks, drop_end_blanks, without_cr, without_comment, starts_comment, is_text_end}
+use Rattle.acng_conf.specs.Cuts.{is_blank, is_cr, is_empty, is_before, before_blanks, drop_blanks, drop_end_blanks, without_cr, without_comment, starts_comment, is_text_end}
 
 -- ---- blanks at the front
 

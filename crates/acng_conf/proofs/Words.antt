@@ -1,5 +1,5 @@
 -- The words of a line and the segments of a path, one after another.
-use Rattle.std.proofs.Common.{◌≡◌, ℕ, suc, ◌+◌, ◌-◌, ◌<◌, ◌≤◌, Bool, true, false, not, List, [], ◌∷◌, ◌++◌, Option, Some, None, cond, map, length, take, drop, get_or, bytes_eq, codes, ◌||◌, refl, sym, ap, ◌∙◌, arith}
+use Rattle.std.proofs.Common.{◌≡◌, ℕ, suc, ◌+◌, ◌-◌, ◌<◌, ◌≤◌, Bool, true, false, not, List, [], ◌∷◌, ◌++◌, Some, None, map, length, take, drop, get_or, bytes_eq, codes, ◌||◌, refl, sym, ap, ◌∙◌, arith}
 use Rattle.std.specs.List.{position, slice_split, filter, concat}
 use Rattle.std.proofs.Math.Seq.{drop-cons, drop-length}
 use Rattle.std.proofs.lemmas.List.{append-nil}

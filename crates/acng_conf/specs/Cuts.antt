@@ -1,5 +1,5 @@
 -- How a text is cut into lines, and a line into words.
-use Rattle.std.specs.Prelude.{ℕ, ◌-◌, nat_lt, slice_index, Bool, true, false, not, ◌&&◌, ◌||◌, ◌==◌, List, [], ◌∷◌, length, cond, filter}
+use Rattle.std.specs.Prelude.{ℕ, ◌-◌, nat_lt, slice_index, Bool, false, not, ◌&&◌, ◌||◌, ◌==◌, List, [], ◌∷◌, length, cond, filter}
 use Rattle.std.specs.List.{slice_split}
 
 -- a space or a tab

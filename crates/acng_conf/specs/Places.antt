@@ -1,5 +1,5 @@
 -- Entries of a group: URLs of `http` and path prefixes, and their canonical forms.
-use Rattle.std.specs.Prelude.{ℕ, Bool, true, false, not, ◌||◌, ◌&&◌, ◌==◌, List, [], ◌∷◌, ◌++◌, cond, codes, bytes_eq, is_some, is_none, map, filter, take, drop, length, decimal, Option, Some, None, option_map, option_and_then, unwrap_or}
+use Rattle.std.specs.Prelude.{ℕ, Bool, true, false, not, ◌||◌, ◌&&◌, ◌==◌, List, [], ◌∷◌, ◌++◌, cond, codes, bytes_eq, is_some, is_none, map, filter, take, drop, decimal, Option, Some, None, option_and_then}
 use Rattle.std.specs.Result.{result_ok}
 use Rattle.std.specs.List.{slice_split, list_any, concat, flat_map}
 use Rattle.std.specs.Str.{is_utf8}

@@ -1,5 +1,5 @@
 -- The text of `check-conf`.
-use Rattle.std.specs.Prelude.{ℕ, List, [], ◌∷◌, ◌++◌, codes, decimal, length, map}
+use Rattle.std.specs.Prelude.{ℕ, List, [], ◌∷◌, ◌++◌, codes, decimal, length}
 use Rattle.acng_conf.specs.Settings.{Settings}
 use Rattle.acng_conf.specs.declared.fault.ConfCause.{ConfCause}
 use Rattle.acng_conf.specs.declared.fault.ConfCause.TheVariants as refused

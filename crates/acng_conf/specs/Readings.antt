@@ -5,7 +5,7 @@ use Rattle.std.specs.Option.{option_map_or}
 use Rattle.std.specs.Str.{is_utf8}
 use Rattle.regex_syntax.specs.Grammar.{read}
 use Rattle.regex.specs.Patterns.{default_config}
-use Rattle.acng_conf.specs.Cuts.{is_empty, begins_with, trim, without_cr, without_comment, is_skipped, pieces, words}
+use Rattle.acng_conf.specs.Cuts.{begins_with, trim, without_cr, without_comment, is_skipped, pieces, words}
 use Rattle.acng_conf.specs.Keys.{is_key, is_page, is_group_name, key_of, group_name}
 use Rattle.acng_conf.specs.Numbers.{number_of}
 use Rattle.acng_conf.specs.Remaps.{Work, work_of, first_section}

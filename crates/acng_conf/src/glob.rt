@@ -2,7 +2,8 @@
 ghost use Rattle.std.specs.Prelude.{◌≡◌};
 ghost use Rattle.acng_conf.specs.Globs.{fits};
 
-/// Whether the name fits.
+/// Whether the name fits. Each `*` tries the ends of the name in turn, so a pattern of many stars takes long on a long
+/// name; patterns are the administrator's own.
 pub fn fits(pattern: &[u8], name: &[u8]) -> bool
     ensures { result ≡ fits pattern.now name.now }
 {

@@ -1,4 +1,4 @@
-use Rattle.std.proofs.Common.{◌≡◌, true, false, sym, ap, ◌∙◌, arith, drop}
+use Rattle.std.proofs.Common.{sym, ◌∙◌, arith}
 use Rattle.acng_base.proofs.Ranges.{rest_is_drop}
 use Rattle.acng_conf.proofs.Trims.{front_step, front_stop}
 use Rattle.acng_conf.proofs.cut.drop_blanks.Goals as goal

@@ -1,4 +1,4 @@
-use Rattle.std.proofs.Common.{◌≡◌, ◌-◌, true, false, sym, ap, ◌∙◌, arith, take}
+use Rattle.std.proofs.Common.{◌≡◌, ◌-◌, sym, ◌∙◌, arith}
 use Rattle.acng_conf.proofs.Trims.{end_step, end_stop}
 use Rattle.acng_conf.proofs.cut.drop_end_blanks.Goals as goal
 

@@ -1,4 +1,4 @@
-use Rattle.std.proofs.Common.{◌≡◌, ◌+◌, ◌-◌, false, length, take, drop, sym, ap, ◌∙◌}
+use Rattle.std.proofs.Common.{◌≡◌, ◌-◌, false, length, take, drop, sym, ap, ◌∙◌}
 use Rattle.acng_base.proofs.Ranges.{rest_is_drop}
 use Rattle.acng_conf.specs.Globs.{fits}
 use Rattle.acng_conf.proofs.Globs.{end_step}

@@ -1,4 +1,4 @@
-use Rattle.std.proofs.Common.{◌≡◌, ◌∙◌, Bool, true, false, ◌&&◌, IfOk, sym, ap, subst}
+use Rattle.std.proofs.Common.{◌≡◌, ◌∙◌, Bool, ◌&&◌, IfOk, sym, ap, subst}
 use Rattle.std.proofs.lemmas.Str.{is_utf8-from_IsUtf8}
 use Rattle.acng_conf.specs.Readings.{is_read, is_pattern}
 use Rattle.acng_conf.proofs.Patterns.{not_utf8}

@@ -1,4 +1,4 @@
-use Rattle.std.proofs.Common.{◌≡◌, List, ℕ, string_bytes, sym, subst}
+use Rattle.std.proofs.Common.{List, ℕ, string_bytes, sym, subst}
 use Rattle.regex.specs.Names.{names_of}
 use Rattle.regex.specs.Patterns.{Config, default_config, Reads}
 use Rattle.regex.specs.Failures.{IsRightKind}

@@ -1,4 +1,4 @@
-use Rattle.std.proofs.Common.{◌≡◌, ◌+◌, ◌++◌, sym, ap, ◌∙◌, drop, append_assoc}
+use Rattle.std.proofs.Common.{◌+◌, ◌++◌, sym, ap, ◌∙◌, drop, append_assoc}
 use Rattle.acng_conf.specs.Printed.{warning_lines}
 use Rattle.acng_conf.proofs.Rows.{row}
 use Rattle.acng_conf.proofs.print.push_warnings.Goals as goal

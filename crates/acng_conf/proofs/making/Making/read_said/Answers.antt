@@ -1,4 +1,4 @@
-use Rattle.std.proofs.Common.{◌≡◌, ◌+◌, List, ℕ, Option, take, drop, sym, ap, ◌∙◌, subst}
+use Rattle.std.proofs.Common.{◌+◌, List, ℕ, Option, take, drop, subst}
 use Rattle.acng_conf.specs.Cuts.{trim}
 use Rattle.acng_conf.specs.Readings.{Gives, after_colon, after_key}
 use Rattle.acng_conf.proofs.making.Making.read_said.Goals as goal

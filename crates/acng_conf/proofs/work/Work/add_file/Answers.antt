@@ -1,4 +1,4 @@
-use Rattle.std.proofs.Common.{◌≡◌, ◌+◌, ◌-◌, false, List, ℕ, take, drop, arith, sym, ap, ◌∙◌}
+use Rattle.std.proofs.Common.{◌≡◌, ◌+◌, ◌-◌, take, drop, arith, sym, ap, ◌∙◌}
 use Rattle.acng_base.proofs.Ranges.{rest_is_drop}
 use Rattle.acng_conf.specs.Cuts.{pieces, without_cr}
 use Rattle.acng_conf.specs.Remaps.{Listing, after_list_line, after_list_lines}
