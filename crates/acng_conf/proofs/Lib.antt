@@ -1,0 +1,10 @@
+mod Cutting
+mod Digits
+mod Escapes
+mod Globs
+mod Lines
+mod Owners
+mod Patterns
+mod Rows
+mod Trims
+mod Words
