@@ -3,7 +3,7 @@ mod Digits
 mod Globs
 mod Lines
 mod Owners
-mod Patterns
+pub mod Patterns
 mod Rows
 mod Trims
 mod Words
