@@ -1,15 +1,11 @@
 -- The patterns that name further files, by their texts.
-use Rattle.std.specs.Prelude.{ℕ, Bool, false, not, ◌&&◌, nat_le, List, Option, Some, None, cond, is_some, chars}
+use Rattle.std.specs.Prelude.{ℕ, Bool, false, not, List, Option, Some, None, cond, is_some, chars}
 use Rattle.std.specs.Option.{option_map_or, option_or}
-use Rattle.std.specs.Str.{is_utf8}
 use Rattle.regex_syntax.specs.Grammar.{read}
 use Rattle.regex.specs.Patterns.{default_config, find_str}
+use Rattle.acng_conf.specs.Readings.{is_pattern}
 use Rattle.acng_class.specs.declared.fault.ClassFault.{ClassFault}
 use Rattle.acng_class.specs.declared.fault.ClassFault.TheVariants.{BadSolid, BadVolatile}
-
--- UTF-8 that `regex` reads, nested no deeper than it allows
-abbrev pub is_pattern : List ℕ → Bool
-is_pattern source = is_utf8 source && option_map_or (λ x. nat_le x.0.depth default_config.nest_limit) (read default_config (chars source)) false
 
 -- whether the pattern that the first text writes is found in the second
 abbrev pub found_by : List ℕ → List ℕ → Bool

@@ -1,14 +1,15 @@
 //! The class of a file, by its path.
 ghost use Rattle.std.specs.Option.{option_map_or};
 ghost use Rattle.std.specs.Prelude.{true, false, ◌≡◌, ◌≢◌, None, Some, IfOk, IfErr, OnOk, option_copied};
-ghost use Rattle.acng_base.specs.Paths.{path_refusal};
+ghost use Rattle.acng_conf.specs.Readings.{is_pattern};
 ghost use Rattle.acng_class.specs.Classes.{class_of, is_found};
-ghost use Rattle.acng_class.specs.Patterns.{is_pattern, pattern_refusal};
+ghost use Rattle.acng_class.specs.Patterns.{pattern_refusal};
 
 use crate::fault::ClassFault;
 use crate::line::{has_solid_ending, is_by_hash, is_difference, is_index};
 use crate::pattern::{Pattern, PatternFault};
 use acng_base::{CachePath, NoMemory};
+use acng_conf::Conf;
 use std::alloc::Global;
 use std::marker::Model;
 use std::str;
@@ -40,6 +41,19 @@ impl Model for Classes {
 }
 
 impl Classes {
+    /// The table with the patterns of a configuration. They are patterns, so that memory alone can be wanting.
+    pub fn of(alloc: Global, conf: &Conf) -> Result<Classes, NoMemory>
+        ensures solid { IfOk result (λ classes. classes.solid ≡ conf.now.pfile_pattern) }
+        ensures volatile { IfOk result (λ classes. classes.volatile ≡ conf.now.vfile_pattern) }
+    {
+        match Classes::by_patterns(alloc, conf.pfile_pattern(), conf.vfile_pattern()) {
+            Ok(classes) => Ok(classes),
+            Err(ClassFault::NoMemory) => Err(NoMemory),
+            Err(ClassFault::BadSolid) => unreachable!(),
+            Err(ClassFault::BadVolatile) => unreachable!(),
+        }
+    }
+
     /// The table with a pattern for further solid files and one for further volatile files.
     pub fn by_patterns(
         alloc: Global,

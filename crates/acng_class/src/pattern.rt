@@ -1,6 +1,7 @@
 //! A pattern that is built once and searched for in many paths.
 ghost use Rattle.std.specs.Prelude.{◌≡◌, ◌≢◌, List, ℕ, true, false, IfOk, IfErr, OnOk};
-ghost use Rattle.acng_class.specs.Patterns.{is_pattern, found_by};
+ghost use Rattle.acng_conf.specs.Readings.{is_pattern};
+ghost use Rattle.acng_class.specs.Patterns.{found_by};
 
 use acng_base::NoMemory;
 use regex::{Error, Regex};

@@ -1,6 +1,7 @@
 //! The table of classes by its rows: each line on both sides.
 use crate::{Class, ClassFault, Classes};
 use acng_base::CachePath;
+use acng_conf::read_conf;
 use std::alloc::Global;
 use std::process::Abort;
 use std::test::Fail;
@@ -228,6 +229,24 @@ fn a_text_that_is_no_pattern_is_refused(rt: HostRuntime) -> Result<(), Fail> {
             Ok(_) => assert_eq!(rt; None, fault),
             Err(refused) => assert_eq!(rt; Some(refused), fault),
         }
+    }
+    Ok(())
+}
+
+#[test]
+fn a_configuration_gives_the_patterns(rt: HostRuntime) -> Result<(), Fail> {
+    let alloc = rt.alloc();
+    for (text, class) in [
+        (b"".as_slice(), Class::Forbidden),
+        (b"VfilePatternEx: readme$".as_slice(), Class::Volatile),
+        (b"PfilePatternEx: readme$".as_slice(), Class::Solid),
+        (b"PfilePatternEx:".as_slice(), Class::Solid),
+    ] {
+        let conf = read_conf(alloc, text, &[]).map_err(|_| "refused")?;
+        let path = CachePath::read(alloc, b"h/readme").map_err(|_| "no path")?;
+        let mut classes = Classes::of(alloc, &conf).map_err(|_| "memory")?;
+        let got = classes.class_of(alloc, &path).map_err(|_| "memory")?;
+        assert_eq!(rt; got, class, "{text:?}");
     }
     Ok(())
 }

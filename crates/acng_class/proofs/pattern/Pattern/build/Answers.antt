@@ -1,8 +1,9 @@
-use Rattle.std.proofs.Common.{◌≡◌, ◌∙◌, subst}
+use Rattle.std.proofs.Common.{◌≡◌, ◌∙◌, subst, sym}
 use Rattle.regex.specs.Patterns.{default_config}
 use Rattle.regex.specs.Failures.{IsRightKind}
-use Rattle.acng_class.specs.Patterns.{is_pattern}
+use Rattle.acng_conf.specs.Readings.{is_pattern}
 use Rattle.std.proofs.Common.{false}
+use Rattle.std.specs.Str.{IsUtf8}
 use Rattle.acng_class.proofs.Verdicts.{accepted, refused, no_text}
 use Rattle.acng_class.proofs.pattern.Pattern.build.Goals as goal
 
@@ -21,5 +22,6 @@ returns-in-Err-Syntax-clause-bad c = λ _.
     let e = c.in-Err-Syntax.field-0-0 in
     let is = c.in-Err-Syntax.field-0-is in
     let text = c.in-Ok.text.now in
-    subst (λ s. is_pattern s ≡ false) c.in-Ok.ensures.cases.0
-    (refused text e.kind (subst (IsRightKind default_config text) is made.kind) (made.by_grammar e is))
+    let given = c.in-Ok.ensures.cases in
+    subst (λ s. is_pattern s ≡ false) given.0
+    (refused text e.kind (subst IsUtf8 (sym given.0) given.1) (subst (IsRightKind default_config text) is made.kind) (made.by_grammar e is))
