@@ -1,5 +1,6 @@
 mod Cutting
 mod Digits
+mod Escapes
 mod Globs
 mod Lines
 mod Owners

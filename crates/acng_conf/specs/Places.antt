@@ -1,10 +1,10 @@
 -- Entries of a group: URLs of `http` and path prefixes, and their canonical forms.
 use Rattle.std.specs.Prelude.{ℕ, Bool, true, false, not, ◌||◌, ◌&&◌, ◌==◌, List, [], ◌∷◌, ◌++◌, cond, codes, bytes_eq, is_some, is_none, map, filter, take, drop, length, decimal, Option, Some, None, option_map, option_and_then, unwrap_or}
 use Rattle.std.specs.Result.{result_ok}
-use Rattle.std.specs.List.{slice_split, list_any, concat}
+use Rattle.std.specs.List.{slice_split, list_any, concat, flat_map}
 use Rattle.std.specs.Str.{is_utf8}
 use Rattle.std.specs.Char.{is_ascii_alphanumeric}
-use Rattle.percent_encoding.specs.Percent.{percent_encode, percent_decode}
+use Rattle.percent_encoding.specs.Percent.{percent_encode_byte, percent_decode}
 use Rattle.url.specs.Parser.{Parsed, parse_url}
 use Rattle.url.specs.Parts.{Parts, nonempty_host, host_or_empty}
 use Rattle.url.specs.Host.{host_text}
@@ -12,7 +12,6 @@ use Rattle.url.specs.declared.host.Host.{Host}
 use Rattle.url.specs.declared.host.Host.TheVariants.{Domain, Ipv4, Ipv6}
 use Rattle.acng_base.specs.Paths.{path_refusal, is_slash}
 use Rattle.acng_conf.specs.Cuts.{is_empty, begins_with}
-use Rattle.acng_conf.specs.declared.place.TheConstants.{ESCAPED}
 use Rattle.acng_conf.specs.declared.place.Section.{Section}
 use Rattle.acng_conf.specs.declared.place.Section.TheVariants.{Merging, Targets}
 
@@ -34,13 +33,16 @@ plain_path path = without_empty (percent_decode path)
 abbrev pub is_path : List ℕ → Bool
 is_path path = is_none (path_refusal (drop 1 path))
 
--- the path with each byte but letters, digits and some others escaped
-abbrev pub escaped_path : List ℕ → List ℕ
-escaped_path = percent_encode ESCAPED
-
--- the byte stays in such a path
+-- the byte stays in an escaped path: a letter, a digit, or one of these
 abbrev pub is_kept : ℕ → Bool
 is_kept b = is_ascii_alphanumeric b || list_any (λ c. c == b) (codes "-._~/+,:=@!$&'()*;")
+
+-- any other byte is `%` and two upper-case hexadecimal digits
+abbrev pub escaped_byte : ℕ → List ℕ
+escaped_byte b = cond (is_kept b) (b ∷ []) (percent_encode_byte b)
+
+abbrev pub escaped_path : List ℕ → List ℕ
+escaped_path path = flat_map escaped_byte path
 
 -- ---- URLs
 

@@ -17,7 +17,7 @@ mod key;
 mod making;
 mod number;
 mod pattern;
-mod place;
+pub mod place;
 mod print;
 mod read;
 mod remap;
@@ -28,6 +28,6 @@ mod work;
 
 pub use conf::{Conf, Group};
 pub use fault::{ConfCause, ConfFault, ListFile, WarnCause, Warning};
-pub use place::ESCAPED;
+pub use place::{ESCAPED, escape, plain_path};
 pub use print::{print_conf, print_fault};
 pub use read::read_conf;

@@ -6,7 +6,7 @@ ghost use Rattle.std.specs.Prelude.{◌≡◌, ◌++◌, ◌∷◌, List, [], If
 ghost use Rattle.url.specs.Parts.{Parts, nonempty_host, host_or_empty};
 ghost use Rattle.url.specs.Host.{host_text};
 ghost use Rattle.url.specs.Parser.{parse_url};
-ghost use Rattle.percent_encoding.specs.Percent.{percent_decode};
+ghost use Rattle.percent_encoding.specs.Percent.{percent_encode, percent_decode};
 ghost use Rattle.acng_base.specs.Paths.{is_slash};
 ghost use Rattle.acng_conf.specs.Places.{without_empty, plain_path, is_path, escaped_path, is_plain_host, is_plain_http, has_scheme, as_url, if_plain, plain_of, read_plain, host_and_port, form, with_path, url_entry, prefix_entry, entry_of, some_segment};
 
@@ -211,16 +211,23 @@ fn target_form(alloc: Global, host: &[u8], path: &[u8]) -> Result<Text, NoMemory
     Ok(Text::of(bytes))
 }
 
-fn escape(alloc: Global, path: &[u8]) -> Result<String, NoMemory>
+/// The path with each byte escaped but letters, digits and `-._~/+,:=@!$&'()*;`.
+pub fn escape(alloc: Global, path: &[u8]) -> Result<String, NoMemory>
     ensures { IfOk result (λ text. string_bytes text ≡ escaped_path path.now) }
+{
+    encode(alloc, path)
+}
+
+fn encode(alloc: Global, path: &[u8]) -> Result<String, NoMemory>
+    ensures { IfOk result (λ text. string_bytes text ≡ percent_encode ESCAPED path.now) }
 {
     let mut text = String::new(alloc);
     percent_encode(path, ESCAPED).append_to(&mut text)?;
     Ok(text)
 }
 
-// The bytes that a path stands for, without empty segments.
-fn plain_path(alloc: Global, path: &[u8]) -> Result<Vec<u8>, NoMemory>
+/// The bytes that a path stands for, without empty segments: a slash before each segment.
+pub fn plain_path(alloc: Global, path: &[u8]) -> Result<Vec<u8>, NoMemory>
     ensures { IfOk result (λ bytes. bytes.items ≡ plain_path path.now) }
 {
     let decoded = decode(alloc, path)?;
