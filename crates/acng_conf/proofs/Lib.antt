@@ -4,7 +4,7 @@ mod Escapes
 mod Globs
 mod Lines
 mod Owners
-mod Patterns
+pub mod Patterns
 mod Rows
 mod Trims
 mod Words

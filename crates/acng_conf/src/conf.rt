@@ -1,11 +1,13 @@
 //! What a configuration says.
 //!
 //! The texts of patterns are held as texts: a built pattern couldn't be shared between threads.
-ghost use Rattle.std.specs.Prelude.{◌≡◌, ◌++◌, ◌∷◌, ◌+◌, ◌<◌, [], map, IfOk, OnOk, IfSome, IfNone, length, option_map, slice_index_or, set, slice_set};
+ghost use Rattle.std.specs.Prelude.{◌≡◌, ◌++◌, ◌∷◌, ◌+◌, ◌<◌, [], true, map, IfOk, OnOk, IfSome, IfNone, length, option_map, slice_index_or, set, slice_set};
 ghost use Rattle.acng_conf.specs.Settings.{Mirrors, Settings, defaults};
-ghost use Rattle.acng_conf.specs.Readings.{new_group, named_at, with_place, with_targets};
+ghost use Rattle.std.specs.Option.{option_map_or};
+ghost use Rattle.acng_conf.specs.Readings.{is_pattern, new_group, named_at, with_place, with_targets};
 
 use crate::fault::Warning;
+use crate::pattern::PatternText;
 use acng_base::{NoMemory, Text, Texts};
 use std::alloc::Global;
 use std::marker::Model;
@@ -106,8 +108,8 @@ pub struct Conf {
     pub(crate) fresh_age: u64,
     pub(crate) redir_max: u32,
     pub(crate) maint_over_http: bool,
-    pub(crate) pfile_pattern: Option<Text>,
-    pub(crate) vfile_pattern: Option<Text>,
+    pub(crate) pfile_pattern: Option<PatternText>,
+    pub(crate) vfile_pattern: Option<PatternText>,
     pub(crate) groups: Vec<Group>,
     pub(crate) entries: u64,
     pub(crate) warnings: Vec<Warning>,
@@ -207,7 +209,8 @@ impl Conf {
 
     /// The pattern of further package files; `regex` reads it.
     pub fn pfile_pattern(&self) -> Option<&[u8]>
-        ensures { option_map (λ text. text.now) result ≡ self.now.pfile_pattern }
+        ensures text { option_map (λ text. text.now) result ≡ self.now.pfile_pattern }
+        ensures pattern { option_map_or is_pattern self.now.pfile_pattern true ≡ true }
     {
         match &self.pfile_pattern {
             Some(text) => Some(text.as_bytes()),
@@ -217,7 +220,8 @@ impl Conf {
 
     /// The pattern of further volatile files; `regex` reads it.
     pub fn vfile_pattern(&self) -> Option<&[u8]>
-        ensures { option_map (λ text. text.now) result ≡ self.now.vfile_pattern }
+        ensures text { option_map (λ text. text.now) result ≡ self.now.vfile_pattern }
+        ensures pattern { option_map_or is_pattern self.now.vfile_pattern true ≡ true }
     {
         match &self.vfile_pattern {
             Some(text) => Some(text.as_bytes()),

@@ -9,7 +9,7 @@ use crate::cut::words;
 use crate::fault::{ConfCause, WarnCause};
 use crate::key::{Key, is_page};
 use crate::number::number;
-use crate::pattern::is_pattern;
+use crate::pattern::{PatternText, is_pattern};
 use acng_base::Text;
 use std::alloc::Global;
 
@@ -160,7 +160,7 @@ impl Conf {
         if !is_pattern(alloc, value)? {
             return Err(ConfCause::BadPattern);
         }
-        self.pfile_pattern = Some(Text::copy(alloc, value)?);
+        self.pfile_pattern = Some(PatternText::copy(alloc, value)?);
         Ok(self)
     }
 
@@ -171,7 +171,7 @@ impl Conf {
         if !is_pattern(alloc, value)? {
             return Err(ConfCause::BadPattern);
         }
-        self.vfile_pattern = Some(Text::copy(alloc, value)?);
+        self.vfile_pattern = Some(PatternText::copy(alloc, value)?);
         Ok(self)
     }
 
