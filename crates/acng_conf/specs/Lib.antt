@@ -1,0 +1,9 @@
+pub mod Cuts
+pub mod Globs
+pub mod Keys
+pub mod Numbers
+pub mod Places
+pub mod Printed
+pub mod Readings
+pub mod Remaps
+pub mod Settings

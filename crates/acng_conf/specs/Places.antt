@@ -1,0 +1,102 @@
+-- Entries of a group: URLs of `http` and path prefixes, and their canonical forms.
+use Rattle.std.specs.Prelude.{ℕ, Bool, true, false, not, ◌||◌, ◌&&◌, ◌==◌, List, [], ◌∷◌, ◌++◌, cond, codes, bytes_eq, is_some, is_none, map, filter, take, drop, length, decimal, Option, Some, None, option_map, option_and_then, unwrap_or}
+use Rattle.std.specs.Result.{result_ok}
+use Rattle.std.specs.List.{slice_split, list_any, concat}
+use Rattle.std.specs.Str.{is_utf8}
+use Rattle.std.specs.Char.{is_ascii_alphanumeric}
+use Rattle.percent_encoding.specs.Percent.{percent_encode, percent_decode}
+use Rattle.url.specs.Parser.{parse_url}
+use Rattle.url.specs.Parts.{Parts, nonempty_host, host_or_empty}
+use Rattle.url.specs.Host.{host_text}
+use Rattle.url.specs.declared.host.Host.{Host}
+use Rattle.url.specs.declared.host.Host.TheVariants.{Domain, Ipv4, Ipv6}
+use Rattle.acng_base.specs.Paths.{path_refusal, is_slash}
+use Rattle.acng_conf.specs.Cuts.{is_empty, begins_with}
+use Rattle.acng_conf.specs.declared.place.TheConstants.{ESCAPED}
+use Rattle.acng_conf.specs.declared.place.Section.{Section}
+use Rattle.acng_conf.specs.declared.place.Section.TheVariants.{Merging, Targets}
+
+-- ---- paths
+
+-- without its empty segments: a slash before each segment
+abbrev pub without_empty : List ℕ → List ℕ
+without_empty path = concat (map (λ s. 47 ∷ s) (filter (λ s. not (is_empty s)) (slice_split is_slash path)))
+
+-- a slash and a segment, unless it is empty
+abbrev pub some_segment : List ℕ → List ℕ
+some_segment segment = cond (is_empty segment) [] (47 ∷ segment)
+
+-- the bytes that a path stands for, without empty segments
+abbrev pub plain_path : List ℕ → List ℕ
+plain_path path = without_empty (percent_decode path)
+
+-- without the slash at its front, it is a path of the cache
+abbrev pub is_path : List ℕ → Bool
+is_path path = is_none (path_refusal (drop 1 path))
+
+-- the path with each byte but letters, digits and some others escaped
+abbrev pub escaped_path : List ℕ → List ℕ
+escaped_path = percent_encode ESCAPED
+
+-- the byte stays in such a path
+abbrev pub is_kept : ℕ → Bool
+is_kept b = is_ascii_alphanumeric b || list_any (λ c. c == b) (codes "-._~/+,:=@!$&'()*;")
+
+-- ---- URLs
+
+-- the host is a domain or an IPv4 address
+abbrev pub is_plain_host : Option (Host (List ℕ)) → Bool
+is_plain_host None = false
+is_plain_host (Some (Domain name)) = true
+is_plain_host (Some (Ipv4 address)) = true
+is_plain_host (Some (Ipv6 address)) = false
+
+-- an `http` URL with nothing but host, port and path
+abbrev pub is_plain_http : Parts → Bool
+is_plain_http url = is_plain_host (nonempty_host url) && (bytes_eq url.scheme (codes "http")
+    && (is_empty url.username && (is_empty url.password && (not (is_some url.query) && not (is_some url.fragment)))))
+
+-- `://` stands in the word
+abbrev pub has_scheme : List ℕ → Bool
+has_scheme [] = false
+has_scheme (b ∷ bs) = bytes_eq (take 3 (b ∷ bs)) (codes "://") || has_scheme bs
+
+-- a word as a URL
+abbrev pub as_url : List ℕ → List ℕ
+as_url word = cond (has_scheme word) word (codes "http://" ++ word)
+
+-- the URL, if `url` reads it and it is a plain one
+abbrev pub read_plain : List ℕ → Option Parts
+read_plain text = cond (is_utf8 text) (option_and_then (λ url. cond (is_plain_http url) (Some url) None) (result_ok (parse_url None text))) None
+
+-- the host, as `url` writes it (a domain in small letters), and the port where it isn't 80
+abbrev pub host_and_port : Parts → List ℕ
+host_and_port url = host_text (host_or_empty url) ++ option_port url.port
+  where
+    option_port : Option ℕ → List ℕ
+    option_port None = []
+    option_port (Some n) = 58 ∷ decimal n
+
+-- ---- entries
+
+-- the canonical form: of a place that merges, host, port and path; of a target, a URL with its path escaped
+abbrev pub form : Section → List ℕ → List ℕ → List ℕ
+form Merging host path = host ++ path
+form Targets host path = codes "http://" ++ host ++ escaped_path path
+
+-- a path that an entry may have: none, or one of the cache
+abbrev pub with_path : Section → List ℕ → List ℕ → Option (List ℕ)
+with_path section host path = cond (is_empty path || is_path path) (Some (form section host path)) None
+
+-- the entry that a word writes as a URL
+abbrev pub url_entry : Section → List ℕ → Option (List ℕ)
+url_entry section word = option_and_then (λ url. with_path section (host_and_port url) (plain_path url.path)) (read_plain (as_url word))
+
+-- the entry that a word writes as a path prefix
+abbrev pub prefix_entry : List ℕ → Option (List ℕ)
+prefix_entry word = let path = plain_path word in cond (is_path path) (Some path) None
+
+-- the entry that a word of a line writes: a prefix only where places merge
+abbrev pub entry_of : Section → List ℕ → Option (List ℕ)
+entry_of Merging word = cond (begins_with 47 word) (prefix_entry word) (url_entry Merging word)
+entry_of Targets word = url_entry Targets word

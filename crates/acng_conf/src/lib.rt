@@ -1,0 +1,32 @@
+//! The configuration: an `acng.conf` as an administrator of apt-cacher-ng knows it, read by exact rules.
+//!
+//! A text is a list of lines `Key: value`. The first line that isn't one, or whose value isn't within its bounds,
+//! refuses the whole text. What is read past, as a key without a meaning, is warned of, in order.
+//!
+//! A line `Remap-NAME: merging ; targets ; flags` brings many mirrors to one group. Its entries are URLs of `http`,
+//! path prefixes, and list files by `file:PATTERN`. An entry merges into one group alone; the look-up of an entry goes
+//! through an ordered map, so that lists of many thousand mirrors read at once.
+#![tactic(auto)]
+
+pub mod conf;
+mod cut;
+pub mod fault;
+mod glob;
+mod key;
+mod making;
+mod number;
+mod pattern;
+mod place;
+mod print;
+mod read;
+mod remap;
+mod setting;
+#[cfg(test)]
+mod tests;
+mod work;
+
+pub use conf::{Conf, Group};
+pub use fault::{ConfCause, ConfFault, ListFile, WarnCause, Warning};
+pub use place::ESCAPED;
+pub use print::{print_conf, print_fault};
+pub use read::read_conf;
