@@ -1,1 +1,9 @@
 mod Cutting
+mod Digits
+mod Globs
+mod Lines
+mod Owners
+mod Patterns
+mod Rows
+mod Trims
+mod Words

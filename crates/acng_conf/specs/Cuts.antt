@@ -1,5 +1,5 @@
 -- How a text is cut into lines, and a line into words.
-use Rattle.std.specs.Prelude.{ℕ, Bool, true, false, not, ◌&&◌, ◌||◌, ◌==◌, List, [], ◌∷◌, length, cond, filter}
+use Rattle.std.specs.Prelude.{ℕ, ◌-◌, nat_lt, slice_index, Bool, true, false, not, ◌&&◌, ◌||◌, ◌==◌, List, [], ◌∷◌, length, cond, filter}
 use Rattle.std.specs.List.{slice_split}
 
 -- a space or a tab
@@ -22,7 +22,8 @@ drop_blanks (b ∷ bs) = cond (is_blank b) (drop_blanks bs) (b ∷ bs)
 
 -- a byte before a text; a blank before nothing is nothing
 abbrev pub before_blanks : ℕ → List ℕ → List ℕ
-before_blanks b rest = cond (is_blank b && is_empty rest) [] (b ∷ rest)
+before_blanks b [] = cond (is_blank b) [] (b ∷ [])
+before_blanks b (c ∷ cs) = b ∷ c ∷ cs
 
 abbrev pub drop_end_blanks : List ℕ → List ℕ
 drop_end_blanks [] = []
@@ -32,10 +33,18 @@ drop_end_blanks (b ∷ bs) = before_blanks b (drop_end_blanks bs)
 abbrev pub trim : List ℕ → List ℕ
 trim text = drop_end_blanks (drop_blanks text)
 
+-- the last byte before a place is of a kind
+abbrev pub is_before : (ℕ → Bool) → List ℕ → ℕ → Bool
+is_before p text end = nat_lt 0 end && p (slice_index text (end - 1))
+
+abbrev pub is_cr : ℕ → Bool
+is_cr b = b == 13
+
 -- without a carriage return at the end
 abbrev pub without_cr : List ℕ → List ℕ
 without_cr [] = []
-without_cr (b ∷ bs) = cond (b == 13 && is_empty bs) [] (b ∷ without_cr bs)
+without_cr (b ∷ []) = cond (b == 13) [] (b ∷ [])
+without_cr (b ∷ c ∷ bs) = b ∷ without_cr (c ∷ bs)
 
 -- up to the first `#` right after a blank, which begins a comment
 abbrev pub without_comment : List ℕ → List ℕ
@@ -46,6 +55,10 @@ without_comment (b ∷ bs) = cond (is_blank b && begins_with 35 bs) [] (b ∷ wi
 abbrev pub starts_comment : List ℕ → Bool
 starts_comment [] = false
 starts_comment (b ∷ bs) = is_blank b && begins_with 35 bs
+
+-- nothing is left, or a comment begins
+abbrev pub is_text_end : List ℕ → Bool
+is_text_end rest = is_empty rest || starts_comment rest
 
 -- nothing stands on the line
 abbrev pub is_skipped : List ℕ → Bool

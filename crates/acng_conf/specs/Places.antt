@@ -5,7 +5,7 @@ use Rattle.std.specs.List.{slice_split, list_any, concat}
 use Rattle.std.specs.Str.{is_utf8}
 use Rattle.std.specs.Char.{is_ascii_alphanumeric}
 use Rattle.percent_encoding.specs.Percent.{percent_encode, percent_decode}
-use Rattle.url.specs.Parser.{parse_url}
+use Rattle.url.specs.Parser.{Parsed, parse_url}
 use Rattle.url.specs.Parts.{Parts, nonempty_host, host_or_empty}
 use Rattle.url.specs.Host.{host_text}
 use Rattle.url.specs.declared.host.Host.{Host}
@@ -65,9 +65,16 @@ has_scheme (b ∷ bs) = bytes_eq (take 3 (b ∷ bs)) (codes "://") || has_scheme
 abbrev pub as_url : List ℕ → List ℕ
 as_url word = cond (has_scheme word) word (codes "http://" ++ word)
 
--- the URL, if `url` reads it and it is a plain one
+abbrev pub if_plain : Parts → Option Parts
+if_plain url = cond (is_plain_http url) (Some url) None
+
+-- the URL, if `url` reads the text and it is a plain one
+abbrev pub plain_of : Parsed Parts → Option Parts
+plain_of parsed = option_and_then if_plain (result_ok parsed)
+
+-- the same of a text that may not be UTF-8, which `url` doesn't read then
 abbrev pub read_plain : List ℕ → Option Parts
-read_plain text = cond (is_utf8 text) (option_and_then (λ url. cond (is_plain_http url) (Some url) None) (result_ok (parse_url None text))) None
+read_plain text = cond (is_utf8 text) (plain_of (parse_url None text)) None
 
 -- the host, as `url` writes it (a domain in small letters), and the port where it isn't 80
 abbrev pub host_and_port : Parts → List ℕ

@@ -1,6 +1,6 @@
 -- What a configuration's text says, line by line, or the first refusal.
-use Rattle.std.specs.Prelude.{ℕ, ◌+◌, Bool, true, false, ◌&&◌, ◌||◌, ◌==◌, nat_le, nat_lt, List, [], ◌∷◌, ◌++◌, cond, bytes_eq, chars, map, take, drop, length, position, insert, set, slice_index_or, Option, Some, None, Result, Ok, Err}
-use Rattle.std.specs.List.{list_any, position_or_len}
+use Rattle.std.specs.Prelude.{ℕ, ◌+◌, Bool, true, false, ◌&&◌, ◌||◌, ◌==◌, nat_le, nat_lt, List, [], ◌∷◌, ◌++◌, cond, bytes_eq, chars, map, take, drop, length, position, insert, set, slice_index_or, Option, Some, None, Result, Ok, Err, MatchResult, unwrap_or, ◌≡◌, ◌≢◌}
+use Rattle.std.specs.List.{list_any}
 use Rattle.std.specs.Option.{option_map_or}
 use Rattle.std.specs.Str.{is_utf8}
 use Rattle.regex_syntax.specs.Grammar.{read}
@@ -11,7 +11,7 @@ use Rattle.acng_conf.specs.Numbers.{number_of}
 use Rattle.acng_conf.specs.Remaps.{Work, work_of, first_section}
 use Rattle.acng_conf.specs.Settings.{Mirrors, Settings, defaults}
 use Rattle.acng_conf.specs.declared.fault.ConfCause.{ConfCause}
-use Rattle.acng_conf.specs.declared.fault.ConfCause.TheVariants.{NotALine, BadNumber, BadUrl, BadPattern, NoMerge, TwiceMerged, TooLong, TooMany}
+use Rattle.acng_conf.specs.declared.fault.ConfCause.TheVariants.{NoMemory, NotALine, BadNumber, BadUrl, BadPattern, NoMerge, TwiceMerged, TooLong, TooMany}
 use Rattle.acng_conf.specs.declared.fault.ConfFault.{ConfFault}
 use Rattle.acng_conf.specs.declared.fault.ListFile.{ListFile}
 use Rattle.acng_conf.specs.declared.fault.WarnCause.{WarnCause}
@@ -27,6 +27,14 @@ Step = Result Settings ConfCause
 abbrev pub and_then : {S T E : Type 0} → Result S E → (S → Result T E) → Result T E
 and_then (Ok s) next = next s
 and_then (Err e) next = Err e
+
+-- what a call gives against the step that it makes; want of memory alone is free
+abbrev pub Gives : Step → Step → Type 0
+Gives expected result = MatchResult result (λ s. expected ≡ Ok s) (λ cause. cause ≢ NoMemory → expected ≡ Err cause)
+
+-- the same, with the line of a refusal
+abbrev pub GivesAt : Result Settings ConfFault → Result Settings ConfFault → Type 0
+GivesAt expected result = MatchResult result (λ s. expected ≡ Ok s) (λ fault. fault.cause ≢ NoMemory → expected ≡ Err fault)
 
 -- ---- warnings
 
@@ -51,9 +59,12 @@ set_bind n s [] = Err NotALine
 set_bind n s (w ∷ []) = Ok (record s { bind = w })
 set_bind n s (w ∷ v ∷ ws) = Ok (with_warning n ExtraBind (record s { bind = w }))
 
--- UTF-8 that `regex` reads, nested no deeper than it allows
+-- `regex` reads the text, nested no deeper than it allows
+abbrev pub is_read : List ℕ → Bool
+is_read text = option_map_or (λ x. nat_le x.0.depth default_config.nest_limit) (read default_config (chars text)) false
+
 abbrev pub is_pattern : List ℕ → Bool
-is_pattern source = is_utf8 source && option_map_or (λ x. nat_le x.0.depth default_config.nest_limit) (read default_config (chars source)) false
+is_pattern source = is_utf8 source && is_read source
 
 abbrev pub with_pattern : List ℕ → Settings → Step
 with_pattern source s = cond (is_pattern source) (Ok s) (Err BadPattern)
@@ -65,7 +76,7 @@ new_group name n = record { name = name; merging = []; targets = []; last = n }
 
 -- the place of the group of this name; the length where there is none
 abbrev pub group_at : List ℕ → List Mirrors → ℕ
-group_at name groups = position_or_len (λ g. bytes_eq g.name name) groups
+group_at name groups = unwrap_or (position (λ g. bytes_eq g.name name) groups) (length groups)
 
 abbrev pub with_group : List ℕ → ℕ → List Mirrors → List Mirrors
 with_group name n groups = cond (nat_lt (group_at name groups) (length groups)) groups (groups ++ new_group name n ∷ [])
@@ -136,21 +147,29 @@ add_remap lists n s name value =
 
 -- ---- lines
 
--- the settings after a key and its value at line n
+-- the settings after a value at line n, by what its key stands for; a group's key sets nothing by itself
+abbrev pub plain_value : ℕ → Settings → List ℕ → Key → Step
+plain_value n s value Port = with_number (number_of 1 65535 value) (λ x. record s { port = x })
+plain_value n s value BindAddress = set_bind n s (words value)
+plain_value n s value ReportPage = set_page s value
+plain_value n s value ExThreshold = with_number (number_of 0 36500 value) (λ x. record s { threshold_days = x })
+plain_value n s value ExAbortOnProblems = with_number (number_of 0 1000000 value) (λ x. record s { abort_limit = x })
+plain_value n s value Offlinemode = with_number (number_of 0 1 value) (λ x. record s { offline = x == 1 })
+plain_value n s value FreshIndexMaxAge = with_number (number_of 0 31536000 value) (λ x. record s { fresh_age = x })
+plain_value n s value RedirMax = with_number (number_of 0 15 value) (λ x. record s { redir_max = x })
+plain_value n s value MaintOverHttp = with_number (number_of 0 1 value) (λ x. record s { maint_over_http = x == 1 })
+plain_value n s value PfilePatternEx = with_pattern value (record s { pfile_pattern = Some value })
+plain_value n s value VfilePatternEx = with_pattern value (record s { vfile_pattern = Some value })
+plain_value n s value Remap = Ok s
+plain_value n s value Other = Ok (with_warning n Unused s)
+
+abbrev pub is_remap : Key → Bool
+is_remap Remap = true
+is_remap _ = false
+
+-- a group's key has the group's name
 abbrev pub after_value : List ListFile → ℕ → Settings → List ℕ → List ℕ → Key → Step
-after_value lists n s key value Port = with_number (number_of 1 65535 value) (λ x. record s { port = x })
-after_value lists n s key value BindAddress = set_bind n s (words value)
-after_value lists n s key value ReportPage = set_page s value
-after_value lists n s key value ExThreshold = with_number (number_of 0 36500 value) (λ x. record s { threshold_days = x })
-after_value lists n s key value ExAbortOnProblems = with_number (number_of 0 1000000 value) (λ x. record s { abort_limit = x })
-after_value lists n s key value Offlinemode = with_number (number_of 0 1 value) (λ x. record s { offline = x == 1 })
-after_value lists n s key value FreshIndexMaxAge = with_number (number_of 0 31536000 value) (λ x. record s { fresh_age = x })
-after_value lists n s key value RedirMax = with_number (number_of 0 15 value) (λ x. record s { redir_max = x })
-after_value lists n s key value MaintOverHttp = with_number (number_of 0 1 value) (λ x. record s { maint_over_http = x == 1 })
-after_value lists n s key value PfilePatternEx = with_pattern value (record s { pfile_pattern = Some value })
-after_value lists n s key value VfilePatternEx = with_pattern value (record s { vfile_pattern = Some value })
-after_value lists n s key value Remap = add_remap lists n s (group_name key) value
-after_value lists n s key value Other = Ok (with_warning n Unused s)
+after_value lists n s key value k = cond (is_remap k) (add_remap lists n s (group_name key) value) (plain_value n s value k)
 
 abbrev pub after_key : List ListFile → ℕ → Settings → List ℕ → List ℕ → Step
 after_key lists n s key value = cond (is_key key) (after_value lists n s key value (key_of key)) (Err NotALine)
@@ -191,9 +210,13 @@ after_lines over lists n s (p ∷ q ∷ ps) = and_then (at_line n (after_line li
 abbrev pub lacks_target : Mirrors → Bool
 lacks_target g = list_any (λ e. begins_with 47 e) g.merging && length g.targets == 0
 
+-- the place of the first warning of a later line
+abbrev pub first_later : ℕ → List Warning → ℕ
+first_later n ws = unwrap_or (position (λ v. nat_lt n v.line) ws) (length ws)
+
 -- a warning after those of its line and of the lines before
 abbrev pub put_warning : Warning → List Warning → List Warning
-put_warning w ws = insert ws (position_or_len (λ v. nat_lt w.line v.line) ws) w
+put_warning w ws = insert ws (first_later w.line ws) w
 
 -- each such group is warned of at its last line
 abbrev pub with_no_targets : List Warning → List Mirrors → List Warning

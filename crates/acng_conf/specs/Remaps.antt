@@ -1,12 +1,14 @@
 -- The line of a group: `merging ; targets ; flags`.
-use Rattle.std.specs.Prelude.{ℕ, ◌+◌, ◌-◌, Bool, true, false, ◌==◌, nat_lt, List, [], ◌∷◌, ◌++◌, cond, codes, bytes_eq, take, drop, length, Option, Some, None, option_map, option_and_then}
-use Rattle.std.specs.List.{list_any, position_or_len}
+use Rattle.std.specs.Prelude.{ℕ, ◌+◌, ◌-◌, Bool, true, false, ◌==◌, nat_lt, List, [], ◌∷◌, ◌++◌, cond, codes, bytes_eq, take, drop, length, Option, Some, None, option_map, option_and_then, unwrap_or, position, Result, MatchResult, ◌≡◌, ◌≢◌}
+use Rattle.std.specs.List.{list_any}
 use Rattle.acng_conf.specs.Cuts.{trim, without_cr, is_skipped, pieces}
 use Rattle.acng_conf.specs.Globs.{fits}
 use Rattle.acng_conf.specs.Places.{url_entry, entry_of}
 use Rattle.acng_conf.specs.declared.fault.ListFile.{ListFile}
 use Rattle.acng_conf.specs.declared.fault.WarnCause.{WarnCause}
 use Rattle.acng_conf.specs.declared.fault.WarnCause.TheVariants.{GzList, NoList, BadListLine, ExtraTarget, Flags}
+use Rattle.acng_conf.specs.declared.work.WordFault.{WordFault}
+use Rattle.acng_conf.specs.declared.work.WordFault.TheVariants.{NoMemory}
 use Rattle.acng_conf.specs.declared.place.Section.{Section}
 use Rattle.acng_conf.specs.declared.place.Section.TheVariants.{Merging, Targets}
 
@@ -101,7 +103,7 @@ is_end word = bytes_eq word (codes ";")
 
 -- how many words stand before the first end
 abbrev pub section_len : List (List ℕ) → ℕ
-section_len ws = position_or_len is_end ws
+section_len ws = unwrap_or (position is_end ws) (length ws)
 
 -- the words of a section, and those after its end
 abbrev pub first_section : List (List ℕ) → List (List ℕ)
@@ -119,3 +121,11 @@ work_of lists held ws =
     let rest = after_section ws in
     option_map (λ w. after_flags (after_section rest) w)
     (option_and_then (λ w. after_words Targets lists w (first_section rest)) (after_words Merging lists (no_work held) (first_section ws)))
+
+-- what a call gives against the expected work
+abbrev pub IsWork : Option Work → Result Work WordFault → Type 0
+IsWork expected result = MatchResult result (λ w. expected ≡ Some w) (λ fault. fault ≢ NoMemory → expected ≡ None)
+
+-- the same of a call that changes the work in place
+abbrev pub IsWorkOf : {T : Type 0} → Option Work → Work → Result T WordFault → Type 0
+IsWorkOf expected w result = MatchResult result (λ _. expected ≡ Some w) (λ fault. fault ≢ NoMemory → expected ≡ None)

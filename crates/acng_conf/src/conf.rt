@@ -78,11 +78,20 @@ impl Group {
         self.merging.push(alloc, entry)
     }
 
-    pub(crate) fn add_target(&mut self, alloc: Global, target: &[u8]) -> Result<(), NoMemory>
-        ensures { OnOk result (self.new ≡ with_targets (target.now ∷ []) self.old) }
+    pub(crate) fn add_targets(&mut self, alloc: Global, targets: &Texts) -> Result<(), NoMemory>
+        ensures { OnOk result (self.new ≡ with_targets targets.now self.old) }
     {
-        self.targets.push(alloc, target)
+        push_all(alloc, &mut self.targets, targets)
     }
+}
+
+fn push_all(alloc: Global, all: &mut Texts, more: &Texts) -> Result<(), NoMemory>
+    ensures { OnOk result (all.new ≡ all.old ++ more.now) }
+{
+    for i in 0..more.len() {
+        all.push(alloc, more.get(i))?;
+    }
+    Ok(())
 }
 
 /// A configuration. Contracts see it as its settings.
@@ -100,7 +109,7 @@ pub struct Conf {
     pub(crate) pfile_pattern: Option<Text>,
     pub(crate) vfile_pattern: Option<Text>,
     pub(crate) groups: Vec<Group>,
-    pub(crate) entries: u32,
+    pub(crate) entries: u64,
     pub(crate) warnings: Vec<Warning>,
 }
 

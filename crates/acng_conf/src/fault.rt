@@ -1,4 +1,7 @@
 //! What a configuration is refused for, and what it is warned of.
+ghost use Rattle.std.specs.Prelude.{◌≡◌};
+ghost use Rattle.acng_conf.specs.declared.fault.ConfCause.TheVariants.{NoMemory};
+
 use acng_base::{NoMemory, Text};
 use std::alloc::AllocError;
 
@@ -68,12 +71,16 @@ pub enum WarnCause {
 }
 
 impl From<NoMemory> for ConfCause {
+    ghost from_gives = { λ _ cause. cause ≡ NoMemory };
+
     fn from(_: NoMemory) -> ConfCause {
         ConfCause::NoMemory
     }
 }
 
 impl From<AllocError> for ConfCause {
+    ghost from_gives = { λ _ cause. cause ≡ NoMemory };
+
     fn from(_: AllocError) -> ConfCause {
         ConfCause::NoMemory
     }

@@ -1,34 +1,22 @@
 //! Which names fit a pattern, in which `*` stands for any bytes.
-ghost use Rattle.std.specs.Prelude.{◌≡◌, IfOk};
+ghost use Rattle.std.specs.Prelude.{◌≡◌};
 ghost use Rattle.acng_conf.specs.Globs.{fits};
 
-/// Whether the name fits. Time is the product of both lengths at most.
-///
-/// After a `*` the rest of the pattern is tried at each place in turn, up to the next `*`: what stood between two of
-/// them is best taken at its first place, so only the last `*` is ever tried again.
+/// Whether the name fits.
 pub fn fits(pattern: &[u8], name: &[u8]) -> bool
     ensures { result ≡ fits pattern.now name.now }
 {
-    let mut p = 0;
-    let mut n = 0;
-    let mut again = None;
-    while n < name.len() {
-        if p < pattern.len() && pattern[p] == b'*' {
-            again = Some((p, n));
-            p += 1;
-        } else if p < pattern.len() && pattern[p] == name[n] {
-            p += 1;
-            n += 1;
-        } else if let Some((star, from)) = again {
-            again = Some((star, from + 1));
-            p = star + 1;
-            n = from + 1;
-        } else {
-            return false;
+    if pattern.is_empty() {
+        return name.is_empty();
+    }
+    let rest = &pattern[1..];
+    if pattern[0] == b'*' {
+        for i in 0..name.len() {
+            if fits(rest, &name[i..]) {
+                return true;
+            }
         }
+        return fits(rest, &name[name.len()..]);
     }
-    while p < pattern.len() && pattern[p] == b'*' {
-        p += 1;
-    }
-    p == pattern.len()
+    !name.is_empty() && name[0] == pattern[0] && fits(rest, &name[1..])
 }

@@ -10,6 +10,7 @@
 
 pub mod conf;
 mod cut;
+mod entry;
 pub mod fault;
 mod glob;
 mod key;

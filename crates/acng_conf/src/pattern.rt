@@ -1,6 +1,6 @@
 //! Whether a text is a pattern of `regex`.
 ghost use Rattle.std.specs.Prelude.{◌≡◌, IfOk};
-ghost use Rattle.acng_conf.specs.Readings.{is_pattern};
+ghost use Rattle.acng_conf.specs.Readings.{is_pattern, is_read};
 
 use acng_base::NoMemory;
 use regex::{Error, Regex};
@@ -15,8 +15,14 @@ pub fn is_pattern(alloc: Global, source: &[u8]) -> Result<bool, NoMemory>
     let Ok(text) = str::from_utf8(source) else {
         return Ok(false);
     };
+    is_read(alloc, text)
+}
+
+fn is_read(alloc: Global, text: &str) -> Result<bool, NoMemory>
+    ensures { IfOk result (λ is. is ≡ is_read text.now) }
+{
     match Regex::new(alloc, text) {
-        Ok(_) => Ok(true),
+        Ok(_regex) => Ok(true),
         Err(Error::Syntax(_)) => Ok(false),
         Err(_) => Err(NoMemory),
     }

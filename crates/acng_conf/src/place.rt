@@ -5,9 +5,10 @@
 ghost use Rattle.std.specs.Prelude.{◌≡◌, ◌++◌, ◌∷◌, List, [], IfOk, OnOk, IfErr, OnErr, option_map, codes, bytes_eq, drop, take, length, position, string_bytes, min, ◌≤◌};
 ghost use Rattle.url.specs.Parts.{Parts, nonempty_host, host_or_empty};
 ghost use Rattle.url.specs.Host.{host_text};
+ghost use Rattle.url.specs.Parser.{parse_url};
 ghost use Rattle.percent_encoding.specs.Percent.{percent_decode};
 ghost use Rattle.acng_base.specs.Paths.{is_slash};
-ghost use Rattle.acng_conf.specs.Places.{without_empty, plain_path, is_path, escaped_path, is_plain_host, is_plain_http, has_scheme, as_url, read_plain, host_and_port, form, with_path, url_entry, prefix_entry, entry_of, some_segment};
+ghost use Rattle.acng_conf.specs.Places.{without_empty, plain_path, is_path, escaped_path, is_plain_host, is_plain_http, has_scheme, as_url, if_plain, plain_of, read_plain, host_and_port, form, with_path, url_entry, prefix_entry, entry_of, some_segment};
 
 use crate::cut::begins_with;
 use acng_base::{CachePath, NoMemory, Text};
@@ -108,12 +109,18 @@ fn has_scheme(word: &[u8]) -> bool
 {
     let mut at = 0;
     while at < word.len() {
-        if word[at..].starts_with(b"://") {
+        if is_scheme_end(&word[at..]) {
             return true;
         }
         at += 1;
     }
     false
+}
+
+fn is_scheme_end(rest: &[u8]) -> bool
+    ensures { result ≡ bytes_eq (take 3 rest.now) (codes "://") }
+{
+    rest.starts_with(b"://")
 }
 
 fn read_plain(alloc: Global, text: &[u8]) -> Result<Option<Url>, NoMemory>
@@ -122,11 +129,23 @@ fn read_plain(alloc: Global, text: &[u8]) -> Result<Option<Url>, NoMemory>
     let Ok(text) = str::from_utf8(text) else {
         return Ok(None);
     };
+    parse_plain(alloc, text)
+}
+
+fn parse_plain(alloc: Global, text: &str) -> Result<Option<Url>, NoMemory>
+    ensures { IfOk result (λ url. url ≡ plain_of (parse_url None text.now)) }
+{
     match Url::parse(alloc, text) {
-        Ok(url) => Ok(if is_plain_http(&url) { Some(url) } else { None }),
+        Ok(url) => Ok(if_plain(url)),
         Err(ParseError::OutOfMemory | ParseError::Overflow) => Err(NoMemory),
         Err(_) => Ok(None),
     }
+}
+
+fn if_plain(url: Url) -> Option<Url>
+    ensures { result ≡ if_plain url }
+{
+    if is_plain_http(&url) { Some(url) } else { None }
 }
 
 fn is_plain_http(url: &Url) -> bool

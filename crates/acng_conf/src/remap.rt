@@ -1,127 +1,236 @@
 //! The lines of groups, added to a configuration in the making.
-ghost use Rattle.std.specs.Prelude.{◌≡◌, ◌≢◌, ◌+◌, ◌<◌, ℕ, List, IfOk, OnOk, IfErr, Ok, Err, MatchResult, length, slice_index_or};
-ghost use Rattle.acng_conf.specs.Settings.{Settings};
+ghost use Rattle.std.specs.Prelude.{◌≡◌, ◌++◌, ◌∷◌, ◌<◌, ◌≤◌, ℕ, List, Ok, IfOk, OnOk, IfSome, length, map, slice_index_or, Some, None, Err, Option, cond, ◌==◌, ◌+◌, position, bytes_eq};
+ghost use Rattle.acng_conf.specs.Cuts.{words};
+ghost use Rattle.acng_conf.specs.Remaps.{Work as WorkView, first_section, work_of};
+ghost use Rattle.acng_conf.specs.Readings.{Gives, new_group, group_at, naming, with_place, with_targets, change, owner, merge, merge_all, add_words, add_work, add_remap, after_merging, within_limits, with_warnings, held_at, is_too_many};
 
-use crate::conf::Group;
+use crate::conf::{Conf, Group};
 use crate::cut::words;
+use crate::entry::Entry;
 use crate::fault::{ConfCause, ListFile, WarnCause};
 use crate::key::is_group_name;
 use crate::making::Making;
-use crate::work::{WordFault, read_words, section_len};
-use acng_base::{NoMemory, Texts};
+use crate::work::{WordFault, Work, read_words, section_len};
+use acng_base::{NoMemory, Text, Texts};
 use std::alloc::Global;
 
 /// The most groups.
 const MOST_GROUPS: usize = 256;
 
 /// The most entries that merge.
-const MOST_ENTRIES: u32 = 20_000;
+const MOST_ENTRIES: u64 = 20_000;
 
 impl Making {
     /// The line of a group.
-    pub fn add_remap(&mut self, alloc: Global, lists: &[ListFile], line: u32, name: &[u8], value: &[u8]) -> Result<(), ConfCause> {
+    pub fn add_remap(
+        self,
+        alloc: Global,
+        lists: &[ListFile],
+        line: u32,
+        name: &[u8],
+        value: &[u8],
+    ) -> Result<Making, ConfCause>
+        ensures { Gives (add_remap lists.now line self name.now value.now) result }
+    {
         if !is_group_name(name) {
             return Err(ConfCause::NotALine);
         }
         let words = words(alloc, value)?;
-        let k = self.name_group(alloc, line, name)?;
-        self.add_words(alloc, lists, line, k, &words)
+        let k = self.conf.group_at(name);
+        let named = self.name_group(alloc, line, name)?;
+        named.add_words(alloc, lists, line, k, words.as_slice())
     }
 
-    fn name_group(&mut self, alloc: Global, line: u32, name: &[u8]) -> Result<usize, NoMemory> {
-        let k = self.group_at(name);
-        if k == self.conf.groups.len() {
-            let group = Group::new(alloc, name, line)?;
-            self.conf.groups.push(group)?;
-        } else {
-            self.conf.groups[k].name_at(line);
-        }
-        Ok(k)
+    // The group of the name stands among the groups, at the place where it stood or after the others.
+    fn name_group(self, alloc: Global, line: u32, name: &[u8]) -> Result<Making, NoMemory>
+        ensures { IfOk result (λ making. (making ≡ naming name.now line self) × (group_at name.now self.groups < length making.groups)) }
+    {
+        let Making { mut conf, owners } = self;
+        conf.name_group(alloc, line, name)?;
+        Ok(Making { conf, owners })
     }
 
-    fn group_at(&self, name: &[u8]) -> usize {
-        let groups = self.conf.groups.as_slice();
-        let mut at = 0;
-        while at < groups.len() && groups[at].name() != name {
-            at += 1;
-        }
-        at
-    }
-
-    fn add_words(&mut self, alloc: Global, lists: &[ListFile], line: u32, k: usize, words: &Texts) -> Result<(), ConfCause> {
+    fn add_words(
+        self,
+        alloc: Global,
+        lists: &[ListFile],
+        line: u32,
+        k: usize,
+        words: &[Text],
+    ) -> Result<Making, ConfCause>
+        requires { k < length self.groups }
+        ensures { Gives (add_words lists.now line k self words.now) result }
+    {
         let held = self.conf.groups[k].targets().len();
-        let work = match read_words(alloc, lists, held, words) {
-            Ok(work) => work,
-            Err(WordFault::NoMemory) => return Err(ConfCause::NoMemory),
-            Err(WordFault::BadWord) => return Err(ConfCause::BadUrl),
-        };
+        match read_words(alloc, lists, held, words) {
+            Ok(work) => self.add_work(alloc, line, k, words, &work),
+            Err(WordFault::NoMemory) => Err(ConfCause::NoMemory),
+            Err(WordFault::BadWord) => Err(ConfCause::BadUrl),
+        }
+    }
+
+    fn add_work(
+        self,
+        alloc: Global,
+        line: u32,
+        k: usize,
+        words: &[Text],
+        work: &Work,
+    ) -> Result<Making, ConfCause>
+        requires { k < length self.groups }
+        ensures { Gives (add_work line k self words.now (Some work.now)) result }
+    {
         if section_len(words) == 0 {
             return Err(ConfCause::NoMerge);
         }
-        self.merge_all(alloc, k, work.merging())?;
-        self.add_targets(alloc, k, work.targets())?;
-        self.add_causes(line, work.causes())?;
-        self.check_limits()
+        let merged = self.merge_all(alloc, k, work.merging())?;
+        merged.add_rest(alloc, line, k, work)
     }
 
-    fn check_limits(&self) -> Result<(), ConfCause> {
-        if self.conf.groups.len() > MOST_GROUPS || self.conf.entries > MOST_ENTRIES {
-            Err(ConfCause::TooMany)
+    // Targets and warnings, and the limits.
+    fn add_rest(self, alloc: Global, line: u32, k: usize, work: &Work) -> Result<Making, ConfCause>
+        requires { k < length self.groups }
+        ensures { Gives (after_merging line k work.now self) result }
+    {
+        let Making { mut conf, owners } = self;
+        conf.add_targets(alloc, k, work.targets())?;
+        conf.warn_all(line, work.causes())?;
+        if conf.is_too_many() {
+            return Err(ConfCause::TooMany);
+        }
+        Ok(Making { conf, owners })
+    }
+
+    fn merge_all(self, alloc: Global, k: usize, entries: &Texts) -> Result<Making, ConfCause>
+        requires { k < length self.groups }
+        ensures step { Gives (merge_all k self entries.now) result }
+        ensures groups { IfOk result (λ making. length making.groups ≡ length self.groups) }
+    {
+        let mut making = self;
+        for i in 0..entries.len() {
+            making = making.merge(alloc, k, entries.get(i))?;
+        }
+        Ok(making)
+    }
+
+    // An entry merges into one group; twice into the same one counts once.
+    fn merge(self, alloc: Global, k: usize, entry: &[u8]) -> Result<Making, ConfCause>
+        requires { k < length self.groups }
+        ensures step { Gives (merge k self entry.now) result }
+        ensures groups { IfOk result (λ making. length making.groups ≡ length self.groups) }
+    {
+        let key = Entry::copy(alloc, entry)?;
+        match self.owner(&key) {
+            Some(j) => self.merge_again(k, j),
+            None => Ok(self.merge_first(alloc, k, key, entry)?),
+        }
+    }
+
+    fn owner(&self, entry: &Entry) -> Option<usize>
+        ensures { result ≡ owner entry.now self.now.groups }
+    {
+        self.owners.get(entry).copied()
+    }
+
+    // An entry that merges into group j already.
+    fn merge_again(self, k: usize, j: usize) -> Result<Making, ConfCause>
+        ensures step { Gives (cond (j == k) (Ok self) (Err ConfCause.TwiceMerged)) result }
+        ensures groups { IfOk result (λ making. length making.groups ≡ length self.groups) }
+    {
+        if j == k {
+            Ok(self)
         } else {
-            Ok(())
+            Err(ConfCause::TwiceMerged)
         }
     }
 
-    fn add_targets(&mut self, alloc: Global, k: usize, targets: &Texts) -> Result<(), NoMemory> {
-        for i in 0..targets.len() {
-            self.conf.groups[k].add_target(alloc, targets.get(i))?;
+    // An entry that merges into no group yet.
+    fn merge_first(
+        self,
+        alloc: Global,
+        k: usize,
+        key: Entry,
+        entry: &[u8],
+    ) -> Result<Making, NoMemory>
+        requires within { k < length self.groups }
+        requires same { key ≡ entry.now }
+        requires first { owner entry.now self.groups ≡ None }
+        ensures step { IfOk result (λ making. making ≡ change (with_place entry.now) k (record self { entries = self.entries + 1 })) }
+        ensures groups { IfOk result (λ making. length making.groups ≡ length self.groups) }
+    {
+        let Making {
+            mut conf,
+            mut owners,
+        } = self;
+        conf.add_place(alloc, k, entry)?;
+        let Ok(_) = owners.insert(key, k) else {
+            return Err(NoMemory);
+        };
+        Ok(Making { conf, owners })
+    }
+}
+
+impl Conf {
+    fn group_at(&self, name: &[u8]) -> usize
+        ensures place { result ≡ group_at name.now self.now.groups }
+        ensures within { result ≤ length self.now.groups }
+    {
+        match find_name(self.groups.as_slice(), name) {
+            Some(k) => k,
+            None => self.groups.len(),
         }
+    }
+
+    fn name_group(&mut self, alloc: Global, line: u32, name: &[u8]) -> Result<(), NoMemory>
+        ensures named { OnOk result (self.new ≡ naming name.now line self.old) }
+        ensures within { OnOk result (group_at name.now self.old.groups < length self.new.groups) }
+    {
+        let k = self.group_at(name);
+        if k == self.groups.len() {
+            let group = Group::new(alloc, name, line)?;
+            self.groups.push(group)?;
+        }
+        self.groups[k].name_at(line);
         Ok(())
     }
 
-    fn add_causes(&mut self, line: u32, causes: &[WarnCause]) -> Result<(), NoMemory> {
+    fn add_place(&mut self, alloc: Global, k: usize, entry: &[u8]) -> Result<(), NoMemory>
+        requires { k < length self.old.groups }
+        ensures { OnOk result (self.new ≡ change (with_place entry.now) k (record self.old { entries = self.old.entries + 1 })) }
+    {
+        let Some(entries) = self.entries.checked_add(1) else {
+            return Err(NoMemory);
+        };
+        self.entries = entries;
+        self.groups[k].add_place(alloc, entry)
+    }
+
+    fn add_targets(&mut self, alloc: Global, k: usize, targets: &Texts) -> Result<(), NoMemory>
+        requires { k < length self.old.groups }
+        ensures { OnOk result (self.new ≡ change (with_targets targets.now) k self.old) }
+    {
+        self.groups[k].add_targets(alloc, targets)
+    }
+
+    fn warn_all(&mut self, line: u32, causes: &[WarnCause]) -> Result<(), NoMemory>
+        ensures { OnOk result (self.new ≡ with_warnings line causes.now self.old) }
+    {
         for cause in causes {
             self.warn(line, *cause)?;
         }
         Ok(())
     }
 
-    fn merge_all(&mut self, alloc: Global, k: usize, entries: &Texts) -> Result<(), ConfCause> {
-        for i in 0..entries.len() {
-            self.merge(alloc, k, entries.get(i))?;
-        }
-        Ok(())
+    fn is_too_many(&self) -> bool
+        ensures { result ≡ is_too_many self.now }
+    {
+        self.groups.len() > MOST_GROUPS || self.entries > MOST_ENTRIES
     }
+}
 
-    // An entry merges into one group; twice into the same one counts once.
-    fn merge(&mut self, alloc: Global, k: usize, entry: &[u8]) -> Result<(), ConfCause> {
-        match self.owner(entry) {
-            Some(j) => {
-                if j == k {
-                    Ok(())
-                } else {
-                    Err(ConfCause::TwiceMerged)
-                }
-            }
-            None => {
-                self.merge_first(alloc, k, entry)?;
-                Ok(())
-            }
-        }
-    }
-
-    fn owner(&self, entry: &[u8]) -> Option<usize> {
-        self.owners.get(entry).copied()
-    }
-
-    // An entry that merges into no group yet.
-    fn merge_first(&mut self, alloc: Global, k: usize, entry: &[u8]) -> Result<(), NoMemory> {
-        self.conf.groups[k].add_place(alloc, entry)?;
-        let key = Vec::from_slice(alloc, entry)?;
-        let Ok(_) = self.owners.insert(key, k) else {
-            return Err(NoMemory);
-        };
-        self.conf.entries += 1;
-        Ok(())
-    }
+fn find_name(groups: &[Group], name: &[u8]) -> Option<usize>
+    ensures place { result ≡ position (λ g. bytes_eq g.name name.now) groups.now }
+    ensures within { IfSome result (λ k. k < length groups.now) }
+{
+    groups.iter().position(|g| g.name() == name)
 }

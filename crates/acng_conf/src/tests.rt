@@ -62,12 +62,27 @@ fn lines_are_taken_or_refused(rt: HostRuntime) -> Result<(), Fail> {
         (b": 80", b"line 1: NotALine\n"),
         (b"1Port: 80", b"line 1: NotALine\n"),
         (b"Po/rt: 80", b"line 1: NotALine\n"),
-        (b"P-o_r.t9: 80", b"ok groups 0 warnings 1\nwarning line 1: Unused\n"),
-        (b"LocalDirs: x", b"ok groups 0 warnings 1\nwarning line 1: Unused\n"),
-        (b"\nProxy:", b"ok groups 0 warnings 1\nwarning line 2: Unused\n"),
-        (b"Remap: x", b"ok groups 0 warnings 1\nwarning line 1: Unused\n"),
+        (
+            b"P-o_r.t9: 80",
+            b"ok groups 0 warnings 1\nwarning line 1: Unused\n",
+        ),
+        (
+            b"LocalDirs: x",
+            b"ok groups 0 warnings 1\nwarning line 1: Unused\n",
+        ),
+        (
+            b"\nProxy:",
+            b"ok groups 0 warnings 1\nwarning line 2: Unused\n",
+        ),
+        (
+            b"Remap: x",
+            b"ok groups 0 warnings 1\nwarning line 1: Unused\n",
+        ),
         (b"BindAddress: 127.0.0.1", FINE),
-        (b"BindAddress: a b c", b"ok groups 0 warnings 1\nwarning line 1: ExtraBind\n"),
+        (
+            b"BindAddress: a b c",
+            b"ok groups 0 warnings 1\nwarning line 1: ExtraBind\n",
+        ),
         (b"BindAddress: ", b"line 1: NotALine\n"),
         (b"ReportPage: a-b_c.D9", FINE),
         (b"ReportPage: a/b", b"line 1: NotALine\n"),
@@ -126,11 +141,20 @@ fn lines_are_taken_or_refused(rt: HostRuntime) -> Result<(), Fail> {
         (b"Remap-x: /", b"line 1: BadUrl\n"),
         (b"Remap-x: /a/../b ; h", b"line 1: BadUrl\n"),
         (b"Remap-x: /a%2e ; h", GROUP),
-        (b"Remap-x: h ; g ; f ; e", b"ok groups 1 warnings 1\nwarning line 1: Flags\n"),
+        (
+            b"Remap-x: h ; g ; f ; e",
+            b"ok groups 1 warnings 1\nwarning line 1: Flags\n",
+        ),
         (b"Remap-x: h;g", GROUP),
         (b"Remap-x: h ; g ;", GROUP),
-        (b"Remap-x: /a h", b"ok groups 1 warnings 1\nwarning line 1: NoTarget\n"),
-        (b"Remap-x: file:none", b"ok groups 1 warnings 1\nwarning line 1: NoList\n"),
+        (
+            b"Remap-x: /a h",
+            b"ok groups 1 warnings 1\nwarning line 1: NoTarget\n",
+        ),
+        (
+            b"Remap-x: file:none",
+            b"ok groups 1 warnings 1\nwarning line 1: NoList\n",
+        ),
         (
             b"Remap-x: /a file:z.gz ; ; f\nJunk: 1\nRemap-x: file:q\nJunk: 2",
             b"ok groups 1 warnings 6\nwarning line 1: GzList\nwarning line 1: Flags\nwarning line 2: Unused\nwarning line 3: NoList\nwarning line 3: NoTarget\nwarning line 4: Unused\n",
@@ -138,7 +162,10 @@ fn lines_are_taken_or_refused(rt: HostRuntime) -> Result<(), Fail> {
         (b"Remap-x: /a\nRemap-x: h ; g", GROUP),
         (b"Remap-x: h h H:80 http://h//", GROUP),
         (b"Remap-x: h\nRemap-y: H", b"line 2: TwiceMerged\n"),
-        (b"Remap-x: h\nRemap-X: g/a http://h:80", b"line 2: TwiceMerged\n"),
+        (
+            b"Remap-x: h\nRemap-X: g/a http://h:80",
+            b"line 2: TwiceMerged\n",
+        ),
         (b"Remap-x: h\nRemap-y: h/a", b"ok groups 2 warnings 0\n"),
         (b"Remap-x: h\nRemap-y: h h:x", b"line 2: BadUrl\n"),
     ] {
@@ -154,8 +181,14 @@ fn the_last_value_of_a_key_counts(rt: HostRuntime) -> Result<(), Fail> {
     assert_eq!(rt; none.port(), 3142);
     assert!(rt; none.bind() == b"0.0.0.0".as_slice());
     assert!(rt; none.report_page() == b"acng-report.html".as_slice());
-    assert_eq!(rt; (none.threshold_days(), none.abort_limit(), none.fresh_age()), (4, 1, 27));
-    assert_eq!(rt; (none.redir_max(), none.offline(), none.maint_over_http()), (5, false, false));
+    assert_eq!(rt;
+        (none.threshold_days(), none.abort_limit(), none.fresh_age()),
+        (4, 1, 27)
+    );
+    assert_eq!(rt;
+        (none.redir_max(), none.offline(), none.maint_over_http()),
+        (5, false, false)
+    );
     assert!(rt; none.pfile_pattern().is_none() && none.vfile_pattern().is_none());
     let text = b"Port: 1\nport: 0099\nBindAddress: a b\nReportPage: r\nExThreshold: 0\n\
         ExAbortOnProblems: 7\nOfflinemode: 1\nFreshIndexMaxAge: 0\nRedirMax: 0\nMaintOverHttp: 1\n\
@@ -164,8 +197,14 @@ fn the_last_value_of_a_key_counts(rt: HostRuntime) -> Result<(), Fail> {
     assert_eq!(rt; conf.port(), 99);
     assert!(rt; conf.bind() == b"a".as_slice());
     assert!(rt; conf.report_page() == b"r".as_slice());
-    assert_eq!(rt; (conf.threshold_days(), conf.abort_limit(), conf.fresh_age()), (0, 7, 0));
-    assert_eq!(rt; (conf.redir_max(), conf.offline(), conf.maint_over_http()), (0, true, true));
+    assert_eq!(rt;
+        (conf.threshold_days(), conf.abort_limit(), conf.fresh_age()),
+        (0, 7, 0)
+    );
+    assert_eq!(rt;
+        (conf.redir_max(), conf.offline(), conf.maint_over_http()),
+        (0, true, true)
+    );
     assert!(rt; conf.pfile_pattern() == Some(b"a b".as_slice()));
     assert!(rt; conf.vfile_pattern() == Some(b"".as_slice()));
     Ok(())
@@ -184,8 +223,14 @@ fn groups_hold_canonical_entries(rt: HostRuntime) -> Result<(), Fail> {
     let alloc = rt.alloc();
     let mut lists = Vec::new(alloc);
     for (name, bytes) in [
-        (b"backends_debian".as_slice(), b"http://deb.debian.org/debian/\n".as_slice()),
-        (b"deb_a", b"# a comment\r\n\r\n  http://A.example/x \r\nhttp://h/a b\nftp://h\n/b.example/y#z\n/b.example/y"),
+        (
+            b"backends_debian".as_slice(),
+            b"http://deb.debian.org/debian/\n".as_slice(),
+        ),
+        (
+            b"deb_a",
+            b"# a comment\r\n\r\n  http://A.example/x \r\nhttp://h/a b\nftp://h\n/b.example/y#z\n/b.example/y",
+        ),
         (b"deb_b.gz", b"http://c.example"),
     ] {
         lists.push(list(alloc, name, bytes).map_err(|_| "memory")?)?;
@@ -244,7 +289,12 @@ fn counted(alloc: Global, count: u32, before: &[u8], after: &[u8]) -> Result<Vec
     Ok(text)
 }
 
-fn is_printed(alloc: Global, text: &[u8], lists: &[ListFile], printed: &[u8]) -> Result<bool, NoMemory> {
+fn is_printed(
+    alloc: Global,
+    text: &[u8],
+    lists: &[ListFile],
+    printed: &[u8],
+) -> Result<bool, NoMemory> {
     let got = checked(alloc, text, lists)?;
     Ok(got.as_bytes() == printed)
 }
@@ -257,9 +307,15 @@ fn limits_hold_on_both_sides(rt: HostRuntime) -> Result<(), Fail> {
         text[..6].copy_from_slice(b"Port: ");
         text[6..length - 5].fill(b' ');
         text.extend_from_slice(b"\r\n")?;
-        assert!(rt; is_printed(alloc, text.as_slice(), &[], printed).map_err(|_| "memory")?, "{length}");
+        assert!(rt;
+            is_printed(alloc, text.as_slice(), &[], printed).map_err(|_| "memory")?,
+            "{length}"
+        );
         text[0] = b'#';
-        assert!(rt; is_printed(alloc, text.as_slice(), &[], FINE).map_err(|_| "memory")?, "{length}");
+        assert!(rt;
+            is_printed(alloc, text.as_slice(), &[], FINE).map_err(|_| "memory")?,
+            "{length}"
+        );
     }
     for (groups, printed) in [
         (256, b"ok groups 256 warnings 0\n".as_slice()),
@@ -272,17 +328,21 @@ fn limits_hold_on_both_sides(rt: HostRuntime) -> Result<(), Fail> {
             let line = format!(in alloc; "Remap-x{i}: h{i}\n")?;
             text.extend_from_slice(line.as_bytes())?;
         }
-        assert!(rt; is_printed(alloc, text.as_slice(), &[], printed).map_err(|_| "memory")?, "{groups}");
+        assert!(rt;
+            is_printed(alloc, text.as_slice(), &[], printed).map_err(|_| "memory")?,
+            "{groups}"
+        );
     }
-    for (entries, printed) in [
-        (20_000, GROUP),
-        (20_001, b"line 1: TooMany\n".as_slice()),
-    ] {
+    for (entries, printed) in [(20_000, GROUP), (20_001, b"line 1: TooMany\n".as_slice())] {
         let mut lists = Vec::new(alloc);
-        let bytes = counted(alloc, entries, b"http://mirror", b".example/debian\n").map_err(|_| "memory")?;
+        let bytes = counted(alloc, entries, b"http://mirror", b".example/debian\n").map_err(
+            |_| "memory",
+        )?;
         lists.push(list(alloc, b"all", bytes.as_slice()).map_err(|_| "memory")?)?;
         assert!(rt;
-            is_printed(alloc, b"Remap-x: file:all", lists.as_slice(), printed).map_err(|_| "memory")?,
+            is_printed(alloc, b"Remap-x: file:all", lists.as_slice(), printed).map_err(
+                |_| "memory"
+            )?,
             "{entries}"
         );
     }
@@ -293,13 +353,24 @@ fn limits_hold_on_both_sides(rt: HostRuntime) -> Result<(), Fail> {
     assert!(rt; is_printed(alloc, text.as_slice(), &[], GROUP).map_err(|_| "memory")?);
     text.extend_from_slice(b"\nRemap-x: b ; u v")?;
     assert!(rt;
-        is_printed(alloc, text.as_slice(), &[], b"ok groups 1 warnings 2\nwarning line 2: ExtraTarget\nwarning line 2: ExtraTarget\n")
-            .map_err(|_| "memory")?
+        is_printed(
+            alloc,
+            text.as_slice(),
+            &[],
+            b"ok groups 1 warnings 2\nwarning line 2: ExtraTarget\nwarning line 2: ExtraTarget\n"
+        )
+        .map_err(|_| "memory")?
     );
-    for (length, printed) in [(4_194_304, FINE), (4_194_305, b"line 2: TooLong\n".as_slice())] {
+    for (length, printed) in [
+        (4_194_304, FINE),
+        (4_194_305, b"line 2: TooLong\n".as_slice()),
+    ] {
         let mut text = vec![in alloc; b'#'; length]?;
         text[4_194_299] = b'\n';
-        assert!(rt; is_printed(alloc, text.as_slice(), &[], printed).map_err(|_| "memory")?, "{length}");
+        assert!(rt;
+            is_printed(alloc, text.as_slice(), &[], printed).map_err(|_| "memory")?,
+            "{length}"
+        );
     }
     Ok(())
 }

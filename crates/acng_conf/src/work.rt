@@ -1,10 +1,11 @@
 //! What a line brings to its group: entries that merge, targets, and warnings.
 //!
 //! Nothing is added to the group before the whole line has read.
-ghost use Rattle.std.specs.Prelude.{◌≡◌, ◌++◌, ◌∷◌, List, [], ℕ, IfOk, OnOk, IfErr, length, take, drop, cond, bytes_eq, Some, None, option_map, Option, codes, ◌-◌, ◌≤◌};
+ghost use Rattle.std.specs.Prelude.{◌≡◌, ◌++◌, ◌∷◌, List, [], ℕ, IfOk, OnOk, IfErr, length, take, drop, cond, bytes_eq, Some, None, option_map, Option, codes, ◌-◌, ◌≤◌, ◌<◌, IfSome, position};
 ghost use Rattle.std.specs.List.{list_any};
 ghost use Rattle.acng_conf.specs.Cuts.{pieces};
-ghost use Rattle.acng_conf.specs.Remaps.{Work as WorkView, no_work, warned, with_target, taken, Listing, after_entry, after_list_text, after_list_line, after_list_lines, after_file, after_fitting, after_files, ends_with_gz, is_listed, after_pattern, is_file_word, after_word, after_words, is_end, section_len, work_of, after_flags};
+ghost use Rattle.acng_conf.specs.Places.{entry_of, url_entry};
+ghost use Rattle.acng_conf.specs.Remaps.{Work as WorkView, no_work, warned, with_target, taken, Listing, after_entry, after_list_text, after_list_line, after_list_lines, after_file, after_fitting, after_files, ends_with_gz, is_listed, after_pattern, is_file_word, after_word, after_words, is_end, section_len, first_section, after_section, work_of, after_flags, IsWork, IsWorkOf};
 
 use crate::cut::{is_skipped, next_lf, trim, without_cr};
 use crate::fault::{ListFile, WarnCause};
@@ -41,49 +42,64 @@ pub enum WordFault {
 }
 
 impl From<NoMemory> for WordFault {
+    ghost use Rattle.std.specs.Prelude.{◌≡◌};
+    ghost use Rattle.acng_conf.specs.declared.work.WordFault.TheVariants.{NoMemory};
+
+    ghost from_gives = { λ _ fault. fault ≡ NoMemory };
+
     fn from(_: NoMemory) -> WordFault {
         WordFault::NoMemory
     }
 }
 
 /// Reads the words of a line for a group that holds so many targets.
-pub fn read_words(alloc: Global, lists: &[ListFile], held: usize, words: &Texts) -> Result<Work, WordFault>
-    ensures ok { IfOk result (λ work. work_of lists.now held words.now ≡ Some work) }
-    ensures refused { result ≡ Err WordFault.BadWord → work_of lists.now held words.now ≡ None }
+pub fn read_words(
+    alloc: Global,
+    lists: &[ListFile],
+    held: usize,
+    words: &[Text],
+) -> Result<Work, WordFault>
+    ensures { IsWork (work_of lists.now held words.now) result }
 {
     let mut work = Work::new(alloc, held);
-    let first = section_end(words, 0);
-    work.add_words(alloc, lists, Section::Merging, words, 0, first)?;
-    let second = after_end(words, first);
-    let third = section_end(words, second);
-    work.add_words(alloc, lists, Section::Targets, words, second, third)?;
-    if after_end(words, third) < words.len() {
-        work.warn(WarnCause::Flags)?;
-    }
-    Ok(work)
-}
-
-// The place of the word that ends the section which begins at a place.
-fn section_end(words: &Texts, start: usize) -> usize
-    requires { start ≤ length words.now }
-{
-    let mut at = start;
-    while at < words.len() && !is_end(words.get(at)) {
-        at += 1;
-    }
-    at
-}
-
-// The place after the end of a section.
-fn after_end(words: &Texts, end: usize) -> usize {
-    if end < words.len() { end + 1 } else { end }
+    work.add_words(alloc, lists, Section::Merging, first_section(words))?;
+    work.read_rest(alloc, lists, after_section(words))
 }
 
 /// How many words the first section has.
-pub fn section_len(words: &Texts) -> usize
-    ensures { result ≡ section_len words.now }
+pub fn section_len(words: &[Text]) -> usize
+    ensures len { result ≡ section_len words.now }
+    ensures within { result ≤ length words.now }
 {
-    section_end(words, 0)
+    match find_end(words) {
+        Some(at) => at,
+        None => words.len(),
+    }
+}
+
+fn find_end(words: &[Text]) -> Option<usize>
+    ensures place { result ≡ position is_end words.now }
+    ensures within { IfSome result (λ k. k < length words.now) }
+{
+    words.iter().position(|w| is_end(w.as_bytes()))
+}
+
+fn first_section(words: &[Text]) -> &[Text]
+    ensures { result.now ≡ first_section words.now }
+{
+    &words[..section_len(words)]
+}
+
+// The words after the end of the first section.
+fn after_section(words: &[Text]) -> &[Text]
+    ensures { result.now ≡ after_section words.now }
+{
+    let len = section_len(words);
+    if len < words.len() {
+        &words[len + 1..]
+    } else {
+        &words[len..]
+    }
 }
 
 fn is_end(word: &[u8]) -> bool
@@ -107,9 +123,7 @@ fn ends_with_gz(pattern: &[u8]) -> bool
 fn is_listed(pattern: &[u8], lists: &[ListFile]) -> bool
     ensures { result ≡ is_listed pattern.now lists.now }
 {
-    lists
-        .iter()
-        .any(|file| fits(pattern, file.name.as_bytes()))
+    lists.iter().any(|file| fits(pattern, file.name.as_bytes()))
 }
 
 impl Work {
@@ -169,30 +183,74 @@ impl Work {
         }
     }
 
-    // The words of a section, from `start` up to `stop`.
-    fn add_words(&mut self, alloc: Global, lists: &[ListFile], section: Section, words: &Texts, start: usize, stop: usize) -> Result<(), WordFault>
-        requires within { stop ≤ length words.now }
+    // The second and the third section.
+    fn read_rest(
+        mut self,
+        alloc: Global,
+        lists: &[ListFile],
+        words: &[Text],
+    ) -> Result<Work, WordFault>
+        ensures { IsWork (option_map (λ w. after_flags (after_section words.now) w) (after_words Section.Targets lists.now self (first_section words.now))) result }
     {
-        for k in start..stop {
-            self.add_word(alloc, lists, section, words.get(k))?;
+        self.add_words(alloc, lists, Section::Targets, first_section(words))?;
+        if !after_section(words).is_empty() {
+            self.warn(WarnCause::Flags)?;
+        }
+        Ok(self)
+    }
+
+    // The words of a section.
+    fn add_words(
+        &mut self,
+        alloc: Global,
+        lists: &[ListFile],
+        section: Section,
+        words: &[Text],
+    ) -> Result<(), WordFault>
+        ensures { IsWorkOf (after_words section lists.now self.old words.now) self.new result }
+    {
+        for word in words {
+            self.add_word(alloc, lists, section, word.as_bytes())?;
         }
         Ok(())
     }
 
-    fn add_word(&mut self, alloc: Global, lists: &[ListFile], section: Section, word: &[u8]) -> Result<(), WordFault> {
+    fn add_word(
+        &mut self,
+        alloc: Global,
+        lists: &[ListFile],
+        section: Section,
+        word: &[u8],
+    ) -> Result<(), WordFault>
+        ensures { IsWorkOf (after_word section lists.now self.old word.now) self.new result }
+    {
         if is_file_word(word) {
             self.add_pattern(alloc, lists, section, &word[5..])?;
             return Ok(());
         }
-        let Some(entry) = entry_of(alloc, section, word)? else {
-            return Err(WordFault::BadWord);
-        };
-        self.take(alloc, section, entry.as_bytes())?;
-        Ok(())
+        self.add_entry(alloc, section, word)
+    }
+
+    fn add_entry(&mut self, alloc: Global, section: Section, word: &[u8]) -> Result<(), WordFault>
+        ensures { IsWorkOf (option_map (λ entry. taken section self.old entry) (entry_of section word.now)) self.new result }
+    {
+        match entry_of(alloc, section, word)? {
+            Some(entry) => {
+                self.take(alloc, section, entry.as_bytes())?;
+                Ok(())
+            }
+            None => Err(WordFault::BadWord),
+        }
     }
 
     // The list files that fit a pattern.
-    fn add_pattern(&mut self, alloc: Global, lists: &[ListFile], section: Section, pattern: &[u8]) -> Result<(), NoMemory>
+    fn add_pattern(
+        &mut self,
+        alloc: Global,
+        lists: &[ListFile],
+        section: Section,
+        pattern: &[u8],
+    ) -> Result<(), NoMemory>
         ensures { OnOk result (self.new ≡ after_pattern section lists.now self.old pattern.now) }
     {
         if ends_with_gz(pattern) {
@@ -204,7 +262,13 @@ impl Work {
         }
     }
 
-    fn add_files(&mut self, alloc: Global, lists: &[ListFile], section: Section, pattern: &[u8]) -> Result<(), NoMemory>
+    fn add_files(
+        &mut self,
+        alloc: Global,
+        lists: &[ListFile],
+        section: Section,
+        pattern: &[u8],
+    ) -> Result<(), NoMemory>
         ensures { OnOk result (self.new ≡ after_files section pattern.now self.old lists.now) }
     {
         for file in lists {
@@ -213,7 +277,13 @@ impl Work {
         Ok(())
     }
 
-    fn add_fitting(&mut self, alloc: Global, section: Section, pattern: &[u8], file: &ListFile) -> Result<(), NoMemory>
+    fn add_fitting(
+        &mut self,
+        alloc: Global,
+        section: Section,
+        pattern: &[u8],
+        file: &ListFile,
+    ) -> Result<(), NoMemory>
         ensures { OnOk result (self.new ≡ after_fitting section pattern.now self.old file.now) }
     {
         if fits(pattern, file.name.as_bytes()) {
@@ -238,7 +308,13 @@ impl Work {
     }
 
     // A line of a list file, and whether the file had a bad line by then.
-    fn add_line(&mut self, alloc: Global, section: Section, bad: bool, line: &[u8]) -> Result<bool, NoMemory>
+    fn add_line(
+        &mut self,
+        alloc: Global,
+        section: Section,
+        bad: bool,
+        line: &[u8],
+    ) -> Result<bool, NoMemory>
         ensures { IfOk result (λ is. record { work = self.new; bad = is } ≡ after_list_line section (record { work = self.old; bad = bad }) line.now) }
     {
         let line = trim(line);
@@ -248,7 +324,13 @@ impl Work {
         self.add_url(alloc, section, bad, line)
     }
 
-    fn add_url(&mut self, alloc: Global, section: Section, bad: bool, line: &[u8]) -> Result<bool, NoMemory>
+    fn add_url(
+        &mut self,
+        alloc: Global,
+        section: Section,
+        bad: bool,
+        line: &[u8],
+    ) -> Result<bool, NoMemory>
         ensures { IfOk result (λ is. record { work = self.new; bad = is } ≡ after_entry section (record { work = self.old; bad = bad }) (url_entry section line.now)) }
     {
         match url_entry(alloc, section, line)? {
