@@ -1,10 +1,20 @@
 -- Which entry of a group decides over a place: whole segments count, and the longest entry that fits.
-use Rattle.std.specs.Prelude.{ℕ, Bool, not, ◌&&◌, ◌==◌, nat_lt, List, [], ◌∷◌, ◌++◌, cond, length, bytes_eq, is_some, slice_index_or, filter, Option, Some, None, option_and_then}
+use Rattle.std.specs.Prelude.{ℕ, Bool, true, false, not, ◌&&◌, ◌==◌, nat_lt, List, [], ◌∷◌, ◌++◌, cond, length, bytes_eq, is_some, slice_index_or, filter, Option, Some, None, option_and_then, slice_index, ◌<◌, ◌≤◌, ◌+◌, ◌≡◌}
 use Rattle.std.specs.List.{starts_with}
-use Rattle.acng_base.specs.Paths.{segments}
+use Rattle.acng_base.specs.Paths.{segments, is_slash}
 use Rattle.acng_conf.specs.Cuts.{begins_with}
 use Rattle.acng_conf.specs.Readings.{owner, new_group}
 use Rattle.acng_conf.specs.Settings.{Mirrors}
+
+-- no slash stands in the text
+abbrev pub HasNoSlash : List ℕ → Type 0
+HasNoSlash text = (k : ℕ) → k < length text → is_slash (slice_index text k) ≡ false
+
+-- the last slash of the text stands there
+pub record IsLastSlash (text : List ℕ) (at : ℕ) : Type 0 where
+  pub within : at < length text
+  pub slash : is_slash (slice_index text at) ≡ true
+  pub last : (k : ℕ) → at + 1 ≤ k → k < length text → is_slash (slice_index text k) ≡ false
 
 -- the segments of the entry are the first segments of the place
 abbrev pub fits : List ℕ → List ℕ → Bool

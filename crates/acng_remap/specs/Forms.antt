@@ -1,6 +1,6 @@
 -- The forms of a request's target (RFC 9112, section 3.2), with this project's own rules on TLS and the report page.
-use Rattle.std.specs.Prelude.{ℕ, ◌+◌, Bool, ◌||◌, ◌==◌, nat_eq, List, [], ◌∷◌, cond, codes, length, take, drop, Option, Some, None}
-use Rattle.std.specs.List.{list_any, starts_with, position_or_len}
+use Rattle.std.specs.Prelude.{ℕ, ◌+◌, Bool, ◌||◌, ◌==◌, nat_eq, List, [], ◌∷◌, cond, codes, length, take, drop, Option, Some, None, position, unwrap_or}
+use Rattle.std.specs.List.{list_any, starts_with}
 use Rattle.acng_base.specs.Paths.{is_slash}
 use Rattle.acng_conf.specs.Keys.{is_named}
 
@@ -45,9 +45,12 @@ after_slashes (b ∷ bs) = cond (is_slash b) (after_slashes bs) (b ∷ bs)
 unfoldable pub after_start : List ℕ → List ℕ
 after_start target = cond (is_absolute target) (drop 7 target) (after_slashes target)
 
--- what stands before the first slash, and what from there on
+-- where the first slash stands, or the end; what stands before it, and what from there on
+abbrev pub slash_at : List ℕ → ℕ
+slash_at text = unwrap_or (position is_slash text) (length text)
+
 abbrev pub before_slash : List ℕ → List ℕ
-before_slash text = take (position_or_len is_slash text) text
+before_slash text = take (slash_at text) text
 
 abbrev pub from_slash : List ℕ → List ℕ
-from_slash text = drop (position_or_len is_slash text) text
+from_slash text = drop (slash_at text) text

@@ -1,6 +1,6 @@
 -- Hosts of targets: a name and perhaps a port (RFC 3986, section 3.2, without users and addresses in brackets).
-use Rattle.std.specs.Prelude.{ℕ, ◌+◌, Bool, ◌&&◌, ◌==◌, nat_le, nat_lt, List, [], ◌∷◌, ◌++◌, cond, length, take, drop, decimal, Option, Some, None}
-use Rattle.std.specs.List.{list_all, position_or_len}
+use Rattle.std.specs.Prelude.{ℕ, ◌+◌, Bool, ◌&&◌, ◌==◌, nat_le, nat_lt, List, [], ◌∷◌, ◌++◌, cond, length, take, drop, decimal, Option, Some, None, position, unwrap_or}
+use Rattle.std.specs.List.{list_all}
 use Rattle.std.specs.Str.{str_to_ascii_lowercase}
 use Rattle.acng_conf.specs.Keys.{is_word_byte}
 use Rattle.acng_conf.specs.Numbers.{number_of}
@@ -10,7 +10,7 @@ is_colon b = b == 58
 
 -- where the name ends
 abbrev pub name_len : List ℕ → ℕ
-name_len host = position_or_len is_colon host
+name_len host = unwrap_or (position is_colon host) (length host)
 
 -- 1 to 253 letters, digits, `.`, `-`, `_`
 abbrev pub is_name : List ℕ → Bool

@@ -6,7 +6,7 @@ ghost use Rattle.std.specs.Prelude.{◌≡◌, ◌≤◌, ◌<◌, Some, None, M
 ghost use Rattle.std.specs.List.{list_any};
 ghost use Rattle.acng_conf.specs.Cuts.{begins_with};
 ghost use Rattle.acng_conf.specs.Readings.{owner};
-ghost use Rattle.acng_remap.specs.Decisions.{deciding, home, has_target, counts};
+ghost use Rattle.acng_remap.specs.Decisions.{HasNoSlash, IsLastSlash, deciding, home, has_target, counts};
 
 use acng_base::Texts;
 use acng_conf::Group;
@@ -32,7 +32,9 @@ pub fn decide(groups: &[Group], place: &[u8]) -> Option<Decided>
     None
 }
 
-fn last_slash(text: &[u8]) -> Option<usize> {
+fn last_slash(text: &[u8]) -> Option<usize>
+    ensures { MatchOption result (HasNoSlash text.now) (λ at. IsLastSlash text.now at) }
+{
     text.iter().rposition(|b| *b == b'/')
 }
 

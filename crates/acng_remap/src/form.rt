@@ -1,9 +1,8 @@
 //! The forms of a target.
-ghost use Rattle.std.specs.Prelude.{◌≡◌, ◌≤◌, ◌<◌, ◌&&◌, ◌∷◌, option_map, nat_lt, length, drop, slice_index, IsTrue};
-ghost use Rattle.std.specs.List.{position_or_len};
+ghost use Rattle.std.specs.Prelude.{◌≡◌, ◌≤◌, ◌<◌, ◌&&◌, ◌∷◌, option_map, nat_lt, length, drop, slice_index, position, IsTrue, IfSome};
 ghost use Rattle.std.specs.Str.{str_to_ascii_lowercase};
 ghost use Rattle.acng_base.specs.Paths.{is_slash};
-ghost use Rattle.acng_remap.specs.Forms.{begins_with, begins_named, has, is_tls, is_absolute, has_slash, query_of, page_query, after_slashes, after_start};
+ghost use Rattle.acng_remap.specs.Forms.{begins_with, begins_named, has, is_tls, is_absolute, has_slash, query_of, page_query, after_slashes, after_start, slash_at};
 
 /// Whether an origin is asked for over TLS.
 #[tactic(auto, unfolding(crate::specs::Forms::is_tls))]
@@ -115,11 +114,19 @@ fn is_slash_at(text: &[u8], at: usize) -> bool
 
 /// Where the first slash stands; the length where there is none.
 pub fn slash_at(text: &[u8]) -> usize
-    ensures place { result ≡ position_or_len is_slash text.now }
+    ensures place { result ≡ slash_at text.now }
     ensures within { result ≤ length text.now }
 {
-    match text.iter().position(|b| *b == b'/') {
+    match next_slash(text) {
         Some(at) => at,
         None => text.len(),
     }
+}
+
+/// The place of the first slash.
+pub fn next_slash(text: &[u8]) -> Option<usize>
+    ensures place { result ≡ position is_slash text.now }
+    ensures within { IfSome result (λ k. k < length text.now) }
+{
+    text.iter().position(|b| *b == b'/')
 }

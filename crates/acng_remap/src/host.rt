@@ -1,12 +1,12 @@
 //! Hosts of targets: a name and perhaps a port.
-ghost use Rattle.std.specs.Prelude.{◌≡◌, ◌≤◌, ◌<◌, ◌++◌, ◌∷◌, true, OnOk, length, decimal};
+ghost use Rattle.std.specs.Prelude.{◌≡◌, ◌≤◌, ◌<◌, ◌++◌, ◌∷◌, true, OnOk, IfSome, length, position, decimal};
 ghost use Rattle.std.specs.List.{list_all};
 ghost use Rattle.std.specs.Char.{is_ascii_digit};
 ghost use Rattle.std.specs.Str.{str_to_ascii_lowercase};
 ghost use Rattle.std.specs.Str.Parse.{digits_value};
 ghost use Rattle.acng_conf.specs.Keys.{is_word_byte};
 ghost use Rattle.acng_conf.specs.Numbers.{is_number};
-ghost use Rattle.acng_remap.specs.Hosts.{name_len, is_name, port_of, port_after, host_port, host_name, host_text};
+ghost use Rattle.acng_remap.specs.Hosts.{is_colon, name_len, is_name, port_of, port_after, host_port, host_name, host_text};
 
 use acng_base::NoMemory;
 use itoa::Buffer;
@@ -40,16 +40,29 @@ fn name_len(host: &[u8]) -> usize
     ensures place { result ≡ name_len host.now }
     ensures within { result ≤ length host.now }
 {
-    match host.iter().position(|b| *b == b':') {
+    match first_colon(host) {
         Some(at) => at,
         None => host.len(),
     }
 }
 
+fn first_colon(host: &[u8]) -> Option<usize>
+    ensures place { result ≡ position is_colon host.now }
+    ensures within { IfSome result (λ k. k < length host.now) }
+{
+    host.iter().position(|b| *b == b':')
+}
+
 fn is_name(name: &[u8]) -> bool
     ensures { result ≡ is_name name.now }
 {
-    1 <= name.len() && name.len() <= 253 && name.iter().all(|b| is_word_byte(*b))
+    1 <= name.len() && name.len() <= 253 && are_word_bytes(name)
+}
+
+fn are_word_bytes(name: &[u8]) -> bool
+    ensures { result ≡ list_all is_word_byte name.now }
+{
+    name.iter().all(|b| is_word_byte(*b))
 }
 
 fn is_word_byte(b: u8) -> bool
@@ -72,7 +85,13 @@ fn port_of(digits: &[u8]) -> Option<u32>
 fn is_number(text: &[u8]) -> bool
     ensures { result ≡ is_number text.now }
 {
-    1 <= text.len() && text.len() <= 9 && text.iter().all(|b| b.is_ascii_digit())
+    1 <= text.len() && text.len() <= 9 && are_digits(text)
+}
+
+fn are_digits(text: &[u8]) -> bool
+    ensures { result ≡ list_all is_ascii_digit text.now }
+{
+    text.iter().all(|b| b.is_ascii_digit())
 }
 
 // The value of at most 9 digits.
@@ -88,7 +107,7 @@ fn value(digits: &[u8]) -> u32
 }
 
 /// Writes a host's canonical text, from the text as it was asked and its port.
-#[tactic(auto, unfolding(crate::specs::Hosts::host_text))]
+#[tactic(auto, unfolding(crate::specs::Hosts::host_text, crate::specs::Hosts::host_name))]
 pub fn push_host(bytes: &mut Vec<u8>, host: &[u8], port: u32) -> Result<(), NoMemory>
     ensures { OnOk result (bytes.new.items ≡ bytes.old.items ++ host_text (host_name host.now) port) }
 {

@@ -1,9 +1,9 @@
 //! Paths of targets, decoded, and as they are asked for.
-ghost use Rattle.std.specs.Prelude.{◌≡◌, ◌++◌, IfOk, OnOk, string_bytes, position};
+ghost use Rattle.std.specs.Prelude.{◌≡◌, ◌++◌, IfOk, OnOk, string_bytes};
 ghost use Rattle.percent_encoding.specs.Percent.{percent_decode};
-ghost use Rattle.acng_base.specs.Paths.{is_slash};
 ghost use Rattle.acng_conf.specs.Places.{without_empty, plain_path, escaped_path, some_segment};
 
+use crate::form::next_slash;
 use acng_base::NoMemory;
 use acng_conf::ESCAPED;
 use percent_encoding::{percent_decode, percent_encode};
@@ -34,13 +34,8 @@ fn push_segments(bytes: &mut Vec<u8>, path: &[u8]) -> Result<(), NoMemory>
         push_segment(bytes, &path[start..start + len])?;
         start += len + 1;
     }
-    push_segment(bytes, &path[start..])
-}
-
-fn next_slash(text: &[u8]) -> Option<usize>
-    ensures { result ≡ position is_slash text.now }
-{
-    text.iter().position(|b| *b == b'/')
+    push_segment(bytes, &path[start..])?;
+    Ok(())
 }
 
 fn push_segment(bytes: &mut Vec<u8>, segment: &[u8]) -> Result<(), NoMemory>
