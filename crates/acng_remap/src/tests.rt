@@ -70,182 +70,76 @@ const NO_GROUPS: &[u8] = b"";
 const GROUPS: &[u8] =
     b"Remap-debrep: ftp.de.example.org/debian http://ftp.example.org/debian /debian ; http://deb.example.org/debian\nRemap-lone: /lone lone.example:8080/x\nRemap-one: m.example ; o.example p.example:81/q%22r/\nRemap-two: m.example/a/b ; t.example\nRemap-pre: /debian/deep /m.example/zz ; d.example";
 
-// Values by hand from the rules; the first rows are those of an administrator's usual group.
+// Targets and their readings, by hand from the rules: a row a line, with a tab between.
+
+// Mirrors and prefixes of one group.
+const MIRRORS_AND_PREFIXES_OF_ONE_GROUP: &[u8] =
+    b"/debian/P\tdebrep/P http://deb.example.org/debian/P\nhttp://ftp.de.example.org/debian/P\tdebrep/P http://deb.example.org/debian/P\n/ftp.example.org//debian/P\tdebrep/P http://deb.example.org/debian/P\nHTTP://FTP.example.ORG:080/%64ebian//P/\tdebrep/P http://deb.example.org/debian/P\n/debrep/P\tdebrep/P http://deb.example.org/debian/P\n///debrep/P\tdebrep/P http://deb.example.org/debian/P\n//debian/P\tdebrep/P http://deb.example.org/debian/P\nhttp://debrep:80/P\tdebrep/P http://deb.example.org/debian/P\nhttp://debrep:81/P\tdebrep:81/P http://debrep:81/P";
+
+// Whole segments.
+const WHOLE_SEGMENTS: &[u8] =
+    b"/debian-security/x.deb\tdebian-security/x.deb http://debian-security/x.deb\nhttp://ftp.example.org/debia/P\tftp.example.org/debia/P http://ftp.example.org/debia/P\nhttp://debian/P\tdebian/P http://debian/P";
+
+// Paths that aren't.
+const PATHS_THAT_AREN_T: &[u8] =
+    b"/debian/../etc\tBadSegment 7\n/debian/%2e%2e/etc\tBadSegment 7\n/debian/.\tBadSegment 7\n/debian\tEmpty\n/debian/\tEmpty\n/debian/..\tBadSegment 7\n/debian/x%00\tBadByte 8\n/debian/x y\tBadByte 8\n/h/%2e%2e/x\tBadSegment 2\n/../x\tBadPath";
+
+// The longest entry decides.
+const THE_LONGEST_ENTRY_DECIDES: &[u8] =
+    b"/m.example/x\tone/x http://o.example/x http://p.example:81/q%22r/x\n/m.example/a/x\tone/a/x http://o.example/a/x http://p.example:81/q%22r/a/x\n/m.example/a/b/x\ttwo/x http://t.example/x\n/m.example/a%2fb/x\ttwo/x http://t.example/x\n/m.example/a%2fbx/x\tone/a/bx/x http://o.example/a/bx/x http://p.example:81/q%22r/a/bx/x\n/m.example/zz/x\tpre/x http://d.example/x\nhttp://m.example/zz/x\tone/zz/x http://o.example/zz/x http://p.example:81/q%22r/zz/x\n/m.example:8080/x\tm.example:8080/x http://m.example:8080/x\n/debian/deep/x\tpre/x http://d.example/x\n/debian/deepx\tdebrep/deepx http://deb.example.org/debian/deepx\n/debian/deep\tEmpty\n/m.example\tEmpty";
+
+// A group without a target.
+const A_GROUP_WITHOUT_A_TARGET: &[u8] =
+    b"/lone/x\tBadTarget\n/lone\tBadTarget\n/lone:8080/x\tlone:8080/x http://lone:8080/x\n/lone.example:8080/x/y\tlone/y http://lone.example:8080/x/y\n/lone.example:08080/x/y%25\tlone/y% http://lone.example:8080/x/y%25";
+
+// Escapes.
+const ESCAPES: &[u8] =
+    b"/h.example/libstdc%2b%2b6_1_all.deb\th.example/libstdc++6_1_all.deb http://h.example/libstdc++6_1_all.deb\n/h.example/%zz%4\th.example/%zz%4 http://h.example/%25zz%254\n/h.example/%2541\th.example/%41 http://h.example/%2541\n/h.example/~a\"b\th.example/~a\"b http://h.example/~a%22b\n/h.example/%ff\tBadPath";
+
+// Hosts and ports.
+const HOSTS_AND_PORTS: &[u8] =
+    b"http://H.example:8080/a.deb\th.example:8080/a.deb http://h.example:8080/a.deb\n/H_1-:00443/a\th_1-:443/a http://h_1-:443/a\nhttp://h.example:65535/a\th.example:65535/a http://h.example:65535/a\nhttp://h.example:65536/a\tBadTarget\nhttp://h.example:000080/a\tBadTarget\nhttp://h.example:0/a\tBadTarget\nhttp://h.example:/a\tBadTarget\nhttp://h.example:8x/a\tBadTarget\nhttp://h.example:80:80/a\tBadTarget\nhttp://u@h.example/a\tBadTarget\nhttp://%68.example/a\tBadTarget\nhttp://[::1]/a\tBadTarget\nhttp:///h.example/a\tBadTarget\nhttp://\tBadTarget\n/\tBadTarget\nhttp://h.example\tEmpty\nhttp://h.example//\tEmpty";
+
+// Forms.
+const FORMS: &[u8] =
+    b"\tBadTarget\n*\tBadTarget\nh.example/a\tBadTarget\nftp://h.example/a\tBadTarget\nhttps://h.example/a\tTls\nHttpS://h.example/a?b#c\tTls\n/HTTPS///h.example/a\tTls\n/https///h.example/a\thttps/h.example/a http://https/h.example/a\n/HTTPS//h.example/a\thttps/h.example/a http://https/h.example/a\n/h.example/a?b\tQuery\n/h.example/a?\tQuery\n/?q\tQuery\n/h.example/a#b\tBadTarget\n/h.example/a?b#c\tBadTarget\n/h.example/a%3fb%23c\th.example/a?b#c http://h.example/a%3Fb%23c";
+
+// The report page.
+const THE_REPORT_PAGE: &[u8] =
+    b"/acng-report.html\t?\n/acng-report.html?\t?\n/acng-report.html?run=expire&#\t?run=expire&#\n/acng-report.html/x\tacng-report.html/x http://acng-report.html/x\n/acng-report.htmlx\tEmpty\n//acng-report.html\tEmpty\nhttp://acng-report.html\tEmpty";
+
+fn expect_all(rt: &impl Abort, alloc: Global, conf: &Conf, rows: &[u8]) -> Result<(), Fail> {
+    for row in rows.split(|b| *b == b'\n') {
+        expect_row(rt, alloc, conf, row)?;
+    }
+    Ok(())
+}
+
+fn expect_row(rt: &impl Abort, alloc: Global, conf: &Conf, row: &[u8]) -> Result<(), Fail> {
+    let Some(at) = row.iter().position(|b| *b == b'\t') else {
+        panic!(rt; "no tab");
+    };
+    let (target, reading) = row.split_at(at);
+    let text = shown(alloc, conf, b"GET", target)?;
+    assert_eq!(rt; text.as_slice(), &reading[1..]);
+    let text = shown(alloc, conf, b"CONNECT", target)?;
+    assert_eq!(rt; text.as_slice(), b"Connect".as_slice());
+    Ok(())
+}
+
 #[test]
 fn a_target_has_one_reading(rt: HostRuntime) -> Result<(), Fail> {
     let alloc = rt.alloc();
     let conf = conf_of(&rt, alloc, GROUPS);
-    for (target, reading) in [
-        // mirrors and prefixes of one group
-        (
-            b"/debian/P".as_slice(),
-            b"debrep/P http://deb.example.org/debian/P".as_slice(),
-        ),
-        (
-            b"http://ftp.de.example.org/debian/P",
-            b"debrep/P http://deb.example.org/debian/P",
-        ),
-        (
-            b"/ftp.example.org//debian/P",
-            b"debrep/P http://deb.example.org/debian/P",
-        ),
-        (
-            b"HTTP://FTP.example.ORG:080/%64ebian//P/",
-            b"debrep/P http://deb.example.org/debian/P",
-        ),
-        (b"/debrep/P", b"debrep/P http://deb.example.org/debian/P"),
-        (b"///debrep/P", b"debrep/P http://deb.example.org/debian/P"),
-        (b"//debian/P", b"debrep/P http://deb.example.org/debian/P"),
-        (
-            b"http://debrep:80/P",
-            b"debrep/P http://deb.example.org/debian/P",
-        ),
-        (b"http://debrep:81/P", b"debrep:81/P http://debrep:81/P"),
-        // whole segments
-        (
-            b"/debian-security/x.deb",
-            b"debian-security/x.deb http://debian-security/x.deb",
-        ),
-        (
-            b"http://ftp.example.org/debia/P",
-            b"ftp.example.org/debia/P http://ftp.example.org/debia/P",
-        ),
-        (b"http://debian/P", b"debian/P http://debian/P"),
-        // paths that aren't
-        (b"/debian/../etc", b"BadSegment 7"),
-        (b"/debian/%2e%2e/etc", b"BadSegment 7"),
-        (b"/debian/.", b"BadSegment 7"),
-        (b"/debian", b"Empty"),
-        (b"/debian/", b"Empty"),
-        (b"/debian/..", b"BadSegment 7"),
-        (b"/debian/x%00", b"BadByte 8"),
-        (b"/debian/x y", b"BadByte 8"),
-        (b"/h/%2e%2e/x", b"BadSegment 2"),
-        (b"/../x", b"BadPath"),
-        // the longest entry decides
-        (
-            b"/m.example/x",
-            b"one/x http://o.example/x http://p.example:81/q%22r/x",
-        ),
-        (
-            b"/m.example/a/x",
-            b"one/a/x http://o.example/a/x http://p.example:81/q%22r/a/x",
-        ),
-        (b"/m.example/a/b/x", b"two/x http://t.example/x"),
-        (b"/m.example/a%2fb/x", b"two/x http://t.example/x"),
-        (
-            b"/m.example/a%2fbx/x",
-            b"one/a/bx/x http://o.example/a/bx/x http://p.example:81/q%22r/a/bx/x",
-        ),
-        (b"/m.example/zz/x", b"pre/x http://d.example/x"),
-        (
-            b"http://m.example/zz/x",
-            b"one/zz/x http://o.example/zz/x http://p.example:81/q%22r/zz/x",
-        ),
-        (
-            b"/m.example:8080/x",
-            b"m.example:8080/x http://m.example:8080/x",
-        ),
-        (b"/debian/deep/x", b"pre/x http://d.example/x"),
-        (
-            b"/debian/deepx",
-            b"debrep/deepx http://deb.example.org/debian/deepx",
-        ),
-        (b"/debian/deep", b"Empty"),
-        (b"/m.example", b"Empty"),
-        // a group without a target
-        (b"/lone/x", b"BadTarget"),
-        (b"/lone", b"BadTarget"),
-        (b"/lone:8080/x", b"lone:8080/x http://lone:8080/x"),
-        (
-            b"/lone.example:8080/x/y",
-            b"lone/y http://lone.example:8080/x/y",
-        ),
-        (
-            b"/lone.example:08080/x/y%25",
-            b"lone/y% http://lone.example:8080/x/y%25",
-        ),
-        // escapes
-        (
-            b"/h.example/libstdc%2b%2b6_1_all.deb",
-            b"h.example/libstdc++6_1_all.deb http://h.example/libstdc++6_1_all.deb",
-        ),
-        (
-            b"/h.example/%zz%4",
-            b"h.example/%zz%4 http://h.example/%25zz%254",
-        ),
-        (b"/h.example/%2541", b"h.example/%41 http://h.example/%2541"),
-        (
-            b"/h.example/~a\"b",
-            b"h.example/~a\"b http://h.example/~a%22b",
-        ),
-        (b"/h.example/%ff", b"BadPath"),
-        // hosts and ports
-        (
-            b"http://H.example:8080/a.deb",
-            b"h.example:8080/a.deb http://h.example:8080/a.deb",
-        ),
-        (b"/H_1-:00443/a", b"h_1-:443/a http://h_1-:443/a"),
-        (
-            b"http://h.example:65535/a",
-            b"h.example:65535/a http://h.example:65535/a",
-        ),
-        (b"http://h.example:65536/a", b"BadTarget"),
-        (b"http://h.example:000080/a", b"BadTarget"),
-        (b"http://h.example:0/a", b"BadTarget"),
-        (b"http://h.example:/a", b"BadTarget"),
-        (b"http://h.example:8x/a", b"BadTarget"),
-        (b"http://h.example:80:80/a", b"BadTarget"),
-        (b"http://u@h.example/a", b"BadTarget"),
-        (b"http://%68.example/a", b"BadTarget"),
-        (b"http://[::1]/a", b"BadTarget"),
-        (b"http:///h.example/a", b"BadTarget"),
-        (b"http://", b"BadTarget"),
-        (b"/", b"BadTarget"),
-        (b"http://h.example", b"Empty"),
-        (b"http://h.example//", b"Empty"),
-        // forms
-        (b"", b"BadTarget"),
-        (b"*", b"BadTarget"),
-        (b"h.example/a", b"BadTarget"),
-        (b"ftp://h.example/a", b"BadTarget"),
-        (b"https://h.example/a", b"Tls"),
-        (b"HttpS://h.example/a?b#c", b"Tls"),
-        (b"/HTTPS///h.example/a", b"Tls"),
-        (
-            b"/https///h.example/a",
-            b"https/h.example/a http://https/h.example/a",
-        ),
-        (
-            b"/HTTPS//h.example/a",
-            b"https/h.example/a http://https/h.example/a",
-        ),
-        (b"/h.example/a?b", b"Query"),
-        (b"/h.example/a?", b"Query"),
-        (b"/?q", b"Query"),
-        (b"/h.example/a#b", b"BadTarget"),
-        (b"/h.example/a?b#c", b"BadTarget"),
-        (
-            b"/h.example/a%3fb%23c",
-            b"h.example/a?b#c http://h.example/a%3Fb%23c",
-        ),
-        // the report page
-        (b"/acng-report.html", b"?"),
-        (b"/acng-report.html?", b"?"),
-        (b"/acng-report.html?run=expire&#", b"?run=expire&#"),
-        (
-            b"/acng-report.html/x",
-            b"acng-report.html/x http://acng-report.html/x",
-        ),
-        (b"/acng-report.htmlx", b"Empty"),
-        (b"//acng-report.html", b"Empty"),
-        (b"http://acng-report.html", b"Empty"),
-    ] {
-        let text = shown(alloc, &conf, b"GET", target)?;
-        assert_eq!(rt; text.as_slice(), reading);
-        let text = shown(alloc, &conf, b"CONNECT", target)?;
-        assert_eq!(rt; text.as_slice(), b"Connect".as_slice());
-    }
+    expect_all(&rt, alloc, &conf, MIRRORS_AND_PREFIXES_OF_ONE_GROUP)?;
+    expect_all(&rt, alloc, &conf, WHOLE_SEGMENTS)?;
+    expect_all(&rt, alloc, &conf, PATHS_THAT_AREN_T)?;
+    expect_all(&rt, alloc, &conf, THE_LONGEST_ENTRY_DECIDES)?;
+    expect_all(&rt, alloc, &conf, A_GROUP_WITHOUT_A_TARGET)?;
+    expect_all(&rt, alloc, &conf, ESCAPES)?;
+    expect_all(&rt, alloc, &conf, HOSTS_AND_PORTS)?;
+    expect_all(&rt, alloc, &conf, FORMS)?;
+    expect_all(&rt, alloc, &conf, THE_REPORT_PAGE)?;
     Ok(())
 }
 
