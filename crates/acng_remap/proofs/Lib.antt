@@ -1,0 +1,6 @@
+pub mod Cutting
+pub mod Deciding
+pub mod Digits
+pub mod Fits
+pub mod Longest
+pub mod Slashes

@@ -1,0 +1,29 @@
+use Rattle.std.proofs.Common.{◌≡◌, Some, None, sym, ap, ◌∙◌, subst, take, arith, rules, Option, ℕ, length}
+use Rattle.std.specs.Option.{MatchOption}
+use Rattle.acng_remap.specs.Decisions.{HasNoSlash, IsLastSlash, home, deciding}
+use Rattle.acng_remap.proofs.Deciding.{Reaches, begins, hit, next, done}
+use Rattle.acng_remap.proofs.decide.decide.Goals as goal
+
+pub loop-end-init : goal.loop-end-init
+loop-end-init c = begins c.args.groups.now c.args.place.now
+
+pub returns-in-Some-home : goal.returns-in-Some-home
+returns-in-Some-home c =
+    let groups = c.args.groups.now in
+    let place = c.args.place.now in
+    let n = c.in-Some.len in
+    let r : Reaches groups place (Some n) = subst (Reaches groups place) c.in-Some.is c.loop-end.invariant in
+    let h : home groups (take n place) ≡ Some c.in-Some-home.group = sym c.home.ensures.home ∙ c.in-Some-home.is in
+    (r.0, c.in-Some-home.ensures.within, h, hit groups place n c.in-Some-home.group r h)
+
+pub loop-end-preserved : goal.loop-end-preserved
+loop-end-preserved c =
+    let groups = c.args.groups.now in
+    let place = c.args.place.now in
+    let n = c.in-Some.len in
+    let r : Reaches groups place (Some n) = subst (Reaches groups place) c.in-Some.is c.loop-end.invariant in
+    let h : home groups (take n place) ≡ None = sym c.home.ensures.home ∙ c.in_default-home.is in
+    next groups place n r h c.last_slash-end.result c.last_slash-end.ensures
+
+pub returns : goal.returns
+returns c = done c.args.groups.now c.args.place.now (subst (Reaches c.args.groups.now c.args.place.now) c.in_default.is c.loop-end.invariant)

@@ -1,0 +1,4 @@
+pub mod Decisions
+pub mod Forms
+pub mod Hosts
+pub mod Readings

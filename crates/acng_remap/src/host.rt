@@ -1,0 +1,138 @@
+//! Hosts of targets: a name and perhaps a port.
+ghost use Rattle.std.specs.Prelude.{◌≡◌, ◌≤◌, ◌<◌, ◌++◌, ◌∷◌, true, OnOk, IfSome, length, position, decimal};
+ghost use Rattle.std.specs.List.{list_all};
+ghost use Rattle.std.specs.Char.{is_ascii_digit};
+ghost use Rattle.std.specs.Str.{str_to_ascii_lowercase};
+ghost use Rattle.std.specs.Str.Parse.{digits_value};
+ghost use Rattle.acng_conf.specs.Keys.{is_word_byte};
+ghost use Rattle.acng_conf.specs.Numbers.{is_number};
+ghost use Rattle.acng_remap.specs.Hosts.{is_colon, name_len, is_name, port_of, port_after, host_port, host_name, host_text};
+
+use acng_base::NoMemory;
+use itoa::Buffer;
+
+/// The port of a host's text, 80 where none is written. None where the text is no host.
+#[tactic(auto, unfolding(crate::specs::Hosts::host_port))]
+pub fn host_port(host: &[u8]) -> Option<u32>
+    ensures { result ≡ host_port host.now }
+{
+    let len = name_len(host);
+    if is_name(&host[..len]) {
+        port_after(host, len)
+    } else {
+        None
+    }
+}
+
+fn port_after(host: &[u8], len: usize) -> Option<u32>
+    requires { len ≡ name_len host.now }
+    ensures { result ≡ port_after host.now }
+{
+    if len < host.len() {
+        port_of(&host[len + 1..])
+    } else {
+        Some(80)
+    }
+}
+
+// Where the name ends: at the first colon, or with the text.
+fn name_len(host: &[u8]) -> usize
+    ensures place { result ≡ name_len host.now }
+    ensures within { result ≤ length host.now }
+{
+    match first_colon(host) {
+        Some(at) => at,
+        None => host.len(),
+    }
+}
+
+fn first_colon(host: &[u8]) -> Option<usize>
+    ensures place { result ≡ position is_colon host.now }
+    ensures within { IfSome result (λ k. k < length host.now) }
+{
+    host.iter().position(|b| *b == b':')
+}
+
+fn is_name(name: &[u8]) -> bool
+    ensures { result ≡ is_name name.now }
+{
+    1 <= name.len() && name.len() <= 253 && are_word_bytes(name)
+}
+
+fn are_word_bytes(name: &[u8]) -> bool
+    ensures { result ≡ list_all is_word_byte name.now }
+{
+    name.iter().all(|b| is_word_byte(*b))
+}
+
+fn is_word_byte(b: u8) -> bool
+    ensures { result ≡ is_word_byte b }
+{
+    b.is_ascii_alphanumeric() || b == b'-' || b == b'_' || b == b'.'
+}
+
+// The number that 1 to 5 digits write, from 1 to 65,535.
+fn port_of(digits: &[u8]) -> Option<u32>
+    ensures { result ≡ port_of digits.now }
+{
+    if digits.len() > 5 || !is_number(digits) {
+        return None;
+    }
+    let n = value(digits);
+    if 1 <= n && n <= 65_535 { Some(n) } else { None }
+}
+
+fn is_number(text: &[u8]) -> bool
+    ensures { result ≡ is_number text.now }
+{
+    1 <= text.len() && text.len() <= 9 && are_digits(text)
+}
+
+fn are_digits(text: &[u8]) -> bool
+    ensures { result ≡ list_all is_ascii_digit text.now }
+{
+    text.iter().all(|b| b.is_ascii_digit())
+}
+
+// The value of at most 9 digits.
+fn value(digits: &[u8]) -> u32
+    requires { is_number digits.now ≡ true }
+    ensures { result ≡ digits_value 10 digits.now }
+{
+    let mut value = 0;
+    for digit in digits {
+        value = value * 10 + u32::from(*digit - b'0');
+    }
+    value
+}
+
+/// Writes a host's canonical text, from the text as it was asked and its port.
+#[tactic(auto, unfolding(crate::specs::Hosts::host_text, crate::specs::Hosts::host_name))]
+pub fn push_host(bytes: &mut Vec<u8>, host: &[u8], port: u32) -> Result<(), NoMemory>
+    ensures { OnOk result (bytes.new.items ≡ bytes.old.items ++ host_text (host_name host.now) port) }
+{
+    push_name(bytes, &host[..name_len(host)])?;
+    if port == 80 {
+        return Ok(());
+    }
+    push_port(bytes, port)
+}
+
+// In small letters.
+fn push_name(bytes: &mut Vec<u8>, name: &[u8]) -> Result<(), NoMemory>
+    ensures { OnOk result (bytes.new.items ≡ bytes.old.items ++ str_to_ascii_lowercase name.now) }
+{
+    for b in name {
+        bytes.push(b.to_ascii_lowercase())?;
+    }
+    Ok(())
+}
+
+fn push_port(bytes: &mut Vec<u8>, port: u32) -> Result<(), NoMemory>
+    ensures { OnOk result (bytes.new.items ≡ bytes.old.items ++ 58 ∷ decimal port) }
+{
+    bytes.push(b':')?;
+    let mut buffer = Buffer::new();
+    bytes.extend_from_slice(buffer.format(port).as_bytes())?;
+    Ok(())
+}
