@@ -3,4 +3,5 @@ pub mod Deciding
 pub mod Digits
 pub mod Fits
 pub mod Longest
+pub mod Origins
 pub mod Slashes
