@@ -1,6 +1,6 @@
 -- The pieces of a text between separators, by the place of the first separator.
-use Rattle.std.proofs.Common.{◌≡◌, ℕ, ◌+◌, ◌-◌, ◌<◌, ◌≤◌, Bool, true, false, List, [], ◌∷◌, Option, Some, None, cond, length, take, drop, refl, sym, ap, ◌∙◌, subst, ltb, arith}
-use Rattle.std.specs.List.{position, position_from, position_or_len, slice_split, onto_first}
+use Rattle.std.proofs.Common.{◌≡◌, ℕ, ◌+◌, ◌-◌, ◌<◌, ◌≤◌, Bool, true, false, List, [], ◌∷◌, Some, None, cond, length, take, drop, refl, sym, ap, ◌∙◌, subst, ltb, arith}
+use Rattle.std.specs.List.{position, position_from, position_or_len, slice_split}
 use Rattle.std.proofs.lemmas.List.{drop-drop, length-drop}
 use Rattle.std.proofs.lemmas.List.Splits.{slice_split_first}
 use Rattle.std.proofs.lemmas.Iterator.Adapters.{position_from-zero}

@@ -1,6 +1,6 @@
 -- An entry fits a place exactly where it is a front of the place that ends where a segment ends.
-use Rattle.std.proofs.Common.{◌≡◌, ℕ, zero, suc, ◌+◌, ◌<◌, ◌≤◌, ◌≢◌, Bool, true, false, ◌&&◌, ◌==◌, List, [], ◌∷◌, cond, length, take, get_or, bytes_eq, refl, sym, ap, ◌∙◌, arith}
-use Rattle.std.specs.List.{slice_split, onto_first, starts_with}
+use Rattle.std.proofs.Common.{◌≡◌, ℕ, zero, suc, ◌<◌, ◌≤◌, Bool, true, false, ◌&&◌, ◌==◌, List, [], ◌∷◌, cond, length, take, get_or, bytes_eq, refl, ap, ◌∙◌, arith}
+use Rattle.std.specs.List.{onto_first}
 use Rattle.std.specs.Cmp.Lexicographic.{pointwise}
 use Rattle.std.proofs.lemmas.Grind.{common_steps}
 use Rattle.acng_base.specs.Paths.{segments, is_slash}

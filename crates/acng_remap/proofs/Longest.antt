@@ -1,14 +1,14 @@
 -- The longest of the entries that pass a test.
-use Rattle.std.proofs.Common.{◌≡◌, ℕ, zero, suc, ◌+◌, ◌<◌, ◌≤◌, ◌≢◌, Bool, true, false, ◌&&◌, ◌||◌, List, [], ◌∷◌, ◌++◌, Option, Some, None, cond, length, bytes_eq, nat_lt, refl, sym, ap, ◌∙◌, arith}
+use Rattle.std.proofs.Common.{◌≡◌, ℕ, ◌+◌, ◌≤◌, Bool, true, false, ◌||◌, List, [], ◌∷◌, Option, Some, None, cond, length, bytes_eq, nat_lt, refl, sym, ap, ◌∙◌, arith}
 use Rattle.std.specs.Bool.{⊤}
-use Rattle.std.specs.List.{list_any, filter, position, position_from}
+use Rattle.std.specs.List.{list_any, filter, position_from}
 use Rattle.std.proofs.lemmas.List.Folds.{list_any-append}
 use Rattle.std.proofs.lemmas.Iterator.Adapters.{position_from-zero}
 use Rattle.std.proofs.lemmas.Slice.Eq.{bytes_eq-Decides}
 use Rattle.std.proofs.lemmas.Grind.{common_steps}
 use Rattle.acng_conf.specs.Settings.{Mirrors}
 use Rattle.acng_conf.specs.Readings.{owner, has_entry}
-use Rattle.acng_remap.specs.Decisions.{longest, longer, longer_of, entries}
+use Rattle.acng_remap.specs.Decisions.{longest, longer_of, entries}
 
 is_one : (x e : List ℕ) → bytes_eq x e ≡ true → x ≡ e
 is_one x e h = grind (arith, common_steps, bytes_eq-Decides)

@@ -1,5 +1,6 @@
 -- What a request asks for: the path in the cache, and the URLs from which the file may come.
-use Rattle.std.specs.Prelude.{ℕ, ◌+◌, Bool, not, ◌||◌, ◌&&◌, ◌==◌, List, [], ◌∷◌, ◌++◌, cond, codes, length, map, drop, bytes_eq, Option, Some, None, Result, Ok, Err, position, MatchResult, ◌≡◌, ◌≢◌}
+use Rattle.std.specs.Prelude.{ℕ, ◌+◌, not, ◌||◌, ◌==◌, List, [], ◌∷◌, ◌++◌, cond, codes, length, map, drop, bytes_eq, Option, Some, None, Result, Ok, Err, position, MatchResult, ◌≡◌, ◌≢◌, ◌≤◌}
+use Rattle.std.specs.Bool.{⊤}
 use Rattle.acng_base.specs.Paths.{path_refusal}
 use Rattle.acng_base.specs.declared.path.PathFault.TheVariants.{Empty}
 use Rattle.acng_base.specs.declared.path.PathFault.{PathFault}
@@ -15,6 +16,11 @@ use Rattle.acng_remap.specs.declared.target.TargetFault.TheVariants.{NoMemory, C
 
 abbrev pub Reading : Type 0
 Reading = Result Target TargetFault
+
+-- a file may come from somewhere
+abbrev pub HasOrigin : Target → Type 0
+HasOrigin (File path origins) = 1 ≤ length origins
+HasOrigin (Page query) = ⊤
 
 -- what a call gives against what is to be read; want of memory alone is free
 abbrev pub Gives : Reading → Reading → Type 0

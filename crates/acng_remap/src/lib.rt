@@ -8,11 +8,13 @@
 mod decide;
 mod form;
 mod host;
+pub mod law;
 mod path;
 mod read;
 pub mod target;
 #[cfg(test)]
 mod tests;
 
+pub use law::one_path_one_origins;
 pub use read::read_target;
 pub use target::{Target, TargetFault};

@@ -1,7 +1,8 @@
 //! A target's reading: the tests in their order, and the file that a place stands for.
-ghost use Rattle.std.specs.Prelude.{◌≡◌, ◌≢◌, ◌≤◌, ◌<◌, ◌+◌, ◌++◌, ◌∷◌, [], Some, Ok, Err, IfOk, IfErr, IfSome, OnOk, length, take, drop, map};
+ghost use Rattle.std.specs.Prelude.{◌≡◌, ◌≢◌, ◌≤◌, ◌<◌, ◌+◌, ◌++◌, ◌∷◌, [], Some, Ok, Err, IfOk, IfErr, IfSome, OnOk, length, take, drop, map, codes, true};
+ghost use Rattle.acng_remap.specs.Forms.{is_tls};
 ghost use Rattle.acng_remap.specs.Hosts.{host_name, host_text};
-ghost use Rattle.acng_remap.specs.Readings.{Gives, GivesPath, reading, form_of, target_file, host_file, of_host, place_file, entry_file, named_file, named_group, own_file, group_file, group_origins, asked, url_of};
+ghost use Rattle.acng_remap.specs.Readings.{Gives, GivesPath, HasOrigin, reading, form_of, target_file, host_file, of_host, place_file, entry_file, named_file, named_group, own_file, group_file, group_origins, asked, url_of};
 
 use crate::decide::{Decided, decide, has_target, named};
 use crate::form::{after_start, has, has_slash, is_absolute, is_tls, page_query, slash_at};
@@ -21,6 +22,11 @@ pub fn read_target(
     target: &[u8],
 ) -> Result<Target, TargetFault>
     ensures target { IfOk result (λ t. reading conf.now method.now target.now ≡ Ok t) }
+    ensures origins { IfOk result HasOrigin }
+
+    // Each refusal, exactly; want of memory is free, but the first two take none.
+    ensures connect { method.now ≡ codes "CONNECT" → result ≡ Err TargetFault.Connect }
+    ensures tls { method.now ≢ codes "CONNECT" → is_tls target.now ≡ true → result ≡ Err TargetFault.Tls }
     ensures refused { IfErr result (λ fault. fault ≢ TargetFault.NoMemory → reading conf.now method.now target.now ≡ Err fault) }
 {
     if method == b"CONNECT".as_slice() {

@@ -1,6 +1,5 @@
-use Rattle.std.proofs.Common.{◌≡◌, Some, None, sym, ap, ◌∙◌, subst, take, arith, rules, Option, ℕ, length}
-use Rattle.std.specs.Option.{MatchOption}
-use Rattle.acng_remap.specs.Decisions.{HasNoSlash, IsLastSlash, home, deciding}
+use Rattle.std.proofs.Common.{◌≡◌, Some, None, sym, ◌∙◌, subst, take}
+use Rattle.acng_remap.specs.Decisions.{home}
 use Rattle.acng_remap.proofs.Deciding.{Reaches, begins, hit, next, done}
 use Rattle.acng_remap.proofs.decide.decide.Goals as goal
 

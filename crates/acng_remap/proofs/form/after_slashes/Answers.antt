@@ -1,4 +1,4 @@
-use Rattle.std.proofs.Common.{◌≡◌, true, false, sym, ap, ◌∙◌, arith, drop}
+use Rattle.std.proofs.Common.{sym, ◌∙◌, arith}
 use Rattle.acng_base.proofs.Ranges.{rest_is_drop}
 use Rattle.acng_remap.proofs.Slashes.{front_step, front_stop}
 use Rattle.acng_remap.proofs.form.after_slashes.Goals as goal
