@@ -7,3 +7,4 @@ run:
 test:
 	rt ci
 	bash tests/loopback.sh
+	bash tests/check_conf.sh

@@ -1,3 +1,4 @@
+pub mod Enough
 pub mod FileReplies
 pub mod Fronts
 pub mod Heads
@@ -7,3 +8,4 @@ pub mod Ran
 pub mod Sendings
 pub mod Steps
 pub mod Taken
+pub mod WordsForm

@@ -1,0 +1,85 @@
+//! The configuration file and the list files beside it.
+//!
+//! List files are the regular files of the configuration file's folder, without itself, in the byte order of their
+//! names. A configuration that isn't there counts as empty under its default name alone, and then no list file is read.
+
+use acng_base::{NoMemory, Text};
+use acng_conf::ListFile;
+use std::alloc::{AllocError, Global};
+use std::fs::File;
+use std::io::ErrorKind;
+use std::rt::Files;
+use std::{fs, io};
+
+/// Why the files weren't opened.
+#[derive(Clone, Copy, Debug, PartialEq, Eq)]
+pub enum FilesFault {
+    /// The system refused a call.
+    Failed,
+    NoMemory,
+}
+
+impl From<io::Error> for FilesFault {
+    fn from(error: io::Error) -> FilesFault {
+        match error.kind() {
+            ErrorKind::OutOfMemory => FilesFault::NoMemory,
+            _ => FilesFault::Failed,
+        }
+    }
+}
+
+impl From<NoMemory> for FilesFault {
+    fn from(_: NoMemory) -> FilesFault {
+        FilesFault::NoMemory
+    }
+}
+
+impl From<AllocError> for FilesFault {
+    fn from(_: AllocError) -> FilesFault {
+        FilesFault::NoMemory
+    }
+}
+
+/// The configuration file. None where it isn't there under its default name.
+pub fn open_conf(
+    files: &impl Files<File = File>,
+    path: &str,
+    is_default: bool,
+) -> Result<Option<File>, FilesFault> {
+    match File::open(files, path) {
+        Ok(file) => Ok(Some(file)),
+        Err(error) if is_default && error.kind() == ErrorKind::NotFound => Ok(None),
+        Err(error) => Err(FilesFault::from(error)),
+    }
+}
+
+/// The list files beside the configuration file.
+pub fn lists_beside<R: Files<File = File> + AllocGlobal + Clone + Drop>(
+    rt: &R,
+    alloc: Global,
+    path: &str,
+) -> Result<Vec<ListFile>, FilesFault> {
+    let (folder, own) = split(path);
+    let mut lists = Vec::new(alloc);
+    for entry in fs::read_dir(rt, folder)? {
+        let entry = entry?;
+        if entry.file_name() != own && fs::metadata(rt, entry.path())?.is_file() {
+            let name = Text::copy(alloc, entry.file_name().as_bytes())?;
+            let bytes = Text::of(fs::read(rt, entry.path())?);
+            let Ok(()) = lists.push(ListFile { name, bytes }) else {
+                return Err(FilesFault::NoMemory);
+            };
+        }
+    }
+    lists.sort_unstable_by(|a, b| a.name.as_bytes().cmp(b.name.as_bytes()));
+    Ok(lists)
+}
+
+// The folder of a file, and its name there.
+fn split(path: &str) -> (&str, &str) {
+    match path.rsplit_once('/') {
+        Some(("", name)) => ("/", name),
+        Some((folder, name)) => (folder, name),
+        None => (".", path),
+    }
+}

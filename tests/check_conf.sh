@@ -1,0 +1,48 @@
+#!/usr/bin/env bash
+# Runs the built program's `check-conf` over the configurations of tests/check-conf, and its words that are refused.
+# What is printed is compared byte for byte, and the status too.
+set -u
+cd "$(dirname "$0")/.." || exit 1
+program=$PWD/crates/acng/out/acng
+[ -x "$program" ] || (cd crates/acng && rt run -- once < stdin > /dev/null 2>&1)
+[ -x "$program" ] || { echo "check_conf: the program isn't built"; exit 1; }
+work=$(mktemp -d)
+trap 'rm -rf "$work"' EXIT
+cp -r tests/check-conf "$work/conf"
+mkdir "$work/empty"
+
+failed=0
+# expect FOLDER STATUS TEXT WORD..: the program's status and output, run in that folder
+expect() {
+    local folder=$1 status=$2 text=$3
+    shift 3
+    printf '%b' "$text" > "$work/wanted"
+    (cd "$folder" && timeout 30 "$program" "$@" < /dev/null > "$work/printed" 2> "$work/error")
+    local got=$?
+    if [ "$got" != "$status" ] || ! cmp -s "$work/printed" "$work/wanted" || [ -s "$work/error" ]; then
+        echo "check_conf: $*: status $got, wanted $status, or other bytes:"
+        cat "$work/printed" "$work/error"
+        failed=1
+    else
+        echo "check_conf: $*: as expected"
+    fi
+}
+for name in groups refused warned; do
+    status=0
+    [ "$name" = refused ] && status=3
+    expect "$work/conf" "$status" "$(cat "tests/check-conf/$name.stdout")\n" check-conf --conf "$name/acng.conf"
+    expect "$work/conf/$name" "$status" "$(cat "tests/check-conf/$name.stdout")\n" check-conf
+done
+expect "$work/empty" 0 'ok groups 0 warnings 0\n' check-conf
+expect "$work/empty" 4 '' check-conf --conf acng.conf
+expect "$work/empty" 4 '' check-conf --conf nowhere/acng.conf
+expect "$work/conf/refused" 2 'words: Other\n' serve
+for command in expire import report; do expect "$work/empty" 2 'words: Other\n' "$command"; done
+expect "$work/empty" 2 'words: Other\n' gen 10
+expect "$work/empty" 2 'words: NotRead\n' gen 0
+expect "$work/empty" 2 'words: NoNumber\n' gen
+expect "$work/empty" 2 'words: StrayNumber\n' expire 3
+expect "$work/empty" 2 'words: NoCommand\n' check
+expect "$work/empty" 2 'words: NotRead\n' check-conf $'\xff'
+expect "$work/empty" 2 'words: NotRead\n'
+exit $failed
