@@ -6,23 +6,30 @@ root=$(cd "$(dirname "$0")/.." && pwd)
 scratch=$(mktemp -d "${1:-/tmp}/bench-keeper.XXXXXX")
 trap 'rm -rf "$scratch"' EXIT
 
-# The program is a crate of a copy, so that the repository's own crates stay as they are.
-mkdir -p "$scratch/repo/crates/bench_keeper/src"
-cp "$root/HANDLES" "$scratch/repo/"
-for crate in acng_base acng_keeper; do
-    mkdir "$scratch/repo/crates/$crate"
-    for part in src specs proofs; do cp -r "$root/crates/$crate/$part" "$scratch/repo/crates/$crate/"; done
-    grep "^$crate:" "$root/crates.txt" >> "$scratch/repo/crates.txt"
+# The program is a crate of a copy, so that the repository's own crates stay as they are. It is proved and built as the
+# program is.
+repo=$scratch/repo
+crate=$repo/crates/bench_keeper
+mkdir -p "$crate/src" "$crate/proofs/append_all" "$crate/proofs/read_all"
+cp "$root/HANDLES" "$repo/"
+for name in acng_base acng_keeper; do
+    mkdir "$repo/crates/$name"
+    for part in src specs proofs; do cp -r "$root/crates/$name/$part" "$repo/crates/$name/"; done
+    grep "^$name:" "$root/crates.txt" >> "$repo/crates.txt"
 done
-echo 'bench_keeper: acng_base acng_keeper' >> "$scratch/repo/crates.txt"
-cp "$root/bench/keeper.rt.txt" "$scratch/repo/crates/bench_keeper/src/main.rt"
-cd "$scratch/repo/crates/bench_keeper"
+echo 'bench_keeper: acng_base acng_keeper' >> "$repo/crates.txt"
+cp "$root/bench/keeper/main.rt.txt" "$crate/src/main.rt"
+: > "$crate/proofs/Lib.antt"
+for part in append_all read_all; do cp "$root/bench/keeper/$part.antt.txt" "$crate/proofs/$part/Invariants.antt"; done
+cd "$crate"
+rt run -- "$scratch/cache" > "$scratch/log" 2>&1 || { cat "$scratch/log"; exit 1; }
+rm -rf "$scratch/cache"
 
 # Bytes a second of one run of dd, whose last line tells bytes and seconds.
 rate() { awk '/copied/ { for (i = 1; i <= NF; i++) if ($i ~ /^s,?$/) printf "%.0f\n", $1 / $(i - 1) }'; }
 
 for _ in 1 2 3 4 5; do
-    rt try -- "$scratch/cache" 2> /dev/null | grep -E '^(append|read_at) '
+    out/bench_keeper "$scratch/cache"
     rm -rf "$scratch/cache"
     echo "dd_write $(LC_ALL=C dd if=/dev/zero of="$scratch/dd" bs=64k count=16384 2>&1 | rate)"
     echo "dd_read $(LC_ALL=C dd if="$scratch/dd" of=/dev/null bs=64k 2>&1 | rate)"
