@@ -1,11 +1,20 @@
 -- An entry fits a place exactly where it is a front of the place that ends where a segment ends.
 use Rattle.std.proofs.Common.{◌≡◌, ℕ, zero, suc, ◌<◌, ◌≤◌, Bool, true, false, ◌&&◌, ◌==◌, List, [], ◌∷◌, cond, length, take, get_or, bytes_eq, refl, ap, ◌∙◌, arith}
-use Rattle.std.specs.List.{onto_first}
+use Rattle.std.specs.List.{slice_split, onto_first}
 use Rattle.std.specs.Cmp.Lexicographic.{pointwise}
 use Rattle.std.proofs.lemmas.Grind.{common_steps}
 use Rattle.acng_base.specs.Paths.{segments, is_slash}
 use Rattle.acng_remap.specs.Decisions.{fits}
-use Rattle.acng_remap.proofs.Cutting.{some_piece}
+
+-- there is always a piece
+some_piece : (p : ℕ → Bool) (text : List ℕ) → (x : List ℕ) × (xs : List (List ℕ)) × (slice_split p text ≡ x ∷ xs)
+some_piece p [] = ([], [], refl)
+some_piece p (b ∷ bs) = cases (p b) refl (some_piece p bs)
+  where
+    cases : (t : Bool) → p b ≡ t → (x : List ℕ) × (xs : List (List ℕ)) × (slice_split p bs ≡ x ∷ xs)
+        → (x : List ℕ) × (xs : List (List ℕ)) × (slice_split p (b ∷ bs) ≡ x ∷ xs)
+    cases true t s = ([], slice_split p bs, rw t refl)
+    cases false t s = (b ∷ s.0, s.1, rw (t, s.2) refl)
 
 -- the same, byte by byte
 abbrev pub fits_bytes : List ℕ → List ℕ → Bool

@@ -123,8 +123,8 @@ pub fn slash_at(text: &[u8]) -> usize
     }
 }
 
-/// The place of the first slash.
-pub fn next_slash(text: &[u8]) -> Option<usize>
+// The place of the first slash.
+fn next_slash(text: &[u8]) -> Option<usize>
     ensures place { result ≡ position is_slash text.now }
     ensures within { IfSome result (λ k. k < length text.now) }
 {

@@ -9,7 +9,6 @@ mod decide;
 mod form;
 mod host;
 pub mod law;
-mod path;
 mod read;
 pub mod target;
 #[cfg(test)]

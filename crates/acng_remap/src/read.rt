@@ -1,5 +1,6 @@
 //! A target's reading: the tests in their order, and the file that a place stands for.
 ghost use Rattle.std.specs.Prelude.{◌≡◌, ◌≢◌, ◌≤◌, ◌<◌, ◌+◌, ◌++◌, ◌∷◌, [], Some, Ok, Err, IfOk, IfErr, IfSome, OnOk, length, take, drop, map, codes, true};
+ghost use Rattle.acng_conf.specs.Places.{escaped_path};
 ghost use Rattle.acng_remap.specs.Forms.{is_tls};
 ghost use Rattle.acng_remap.specs.Hosts.{host_name, host_text};
 ghost use Rattle.acng_remap.specs.Readings.{Gives, GivesPath, HasOrigin, reading, form_of, target_file, host_file, of_host, place_file, entry_file, named_file, named_group, own_file, group_file, group_origins, asked, url_of};
@@ -7,10 +8,9 @@ ghost use Rattle.acng_remap.specs.Readings.{Gives, GivesPath, HasOrigin, reading
 use crate::decide::{Decided, decide, has_target, named};
 use crate::form::{after_start, has, has_slash, is_absolute, is_tls, page_query, slash_at};
 use crate::host::{host_port, push_host};
-use crate::path::{push_escaped, push_path};
 use crate::target::{Target, TargetFault};
 use acng_base::{CachePath, NoMemory, PathFault, Text, Texts};
-use acng_conf::{Conf, Group};
+use acng_conf::{Conf, Group, escape, plain_path};
 use std::alloc::Global;
 
 /// What a method and a target ask for. The first rule that fits decides.
@@ -61,8 +61,7 @@ fn read_file(alloc: Global, groups: &[Group], target: &[u8]) -> Result<Target, T
     if !has_slash(target) {
         return read_host(alloc, groups, after_start(target));
     }
-    let mut path = Vec::new(alloc);
-    push_path(alloc, &mut path, target)?;
+    let path = plain_path(alloc, target)?;
     match decide(groups, path.as_slice()) {
         Some(decided) => entry_file(alloc, groups, path.as_slice(), decided),
         None => read_host(alloc, groups, after_start(target)),
@@ -93,7 +92,8 @@ fn read_place(
     let mut place = Vec::new(alloc);
     push_host(&mut place, host, port)?;
     let len = place.len();
-    push_path(alloc, &mut place, path)?;
+    let path = plain_path(alloc, path)?;
+    place.extend_from_slice(path.as_slice())?;
     place_file(alloc, groups, place.as_slice(), len, port)
 }
 
@@ -249,21 +249,28 @@ fn push_targets(
 ) -> Result<(), NoMemory>
     ensures { OnOk result (origins.new ≡ origins.old ++ map (asked rest.now) targets.now) }
 {
-    let mut escaped = String::new(alloc);
-    escaped.push('/')?;
-    push_escaped(&mut escaped, rest)?;
+    let part = asked_part(alloc, rest)?;
     for i in 0..targets.len() {
-        push_joined(alloc, origins, targets.get(i), escaped.as_bytes())?;
+        push_joined(alloc, origins, targets.get(i), part.as_slice())?;
     }
     Ok(())
+}
+
+// What is asked of a target: a slash and the rest.
+fn asked_part(alloc: Global, rest: &[u8]) -> Result<Vec<u8>, NoMemory>
+    ensures { IfOk result (λ part. part.items ≡ 47 ∷ escaped_path rest.now) }
+{
+    let escaped = escape(alloc, rest)?;
+    let mut part = Vec::from_slice(alloc, b"/")?;
+    part.extend_from_slice(escaped.as_bytes())?;
+    Ok(part)
 }
 
 // The URL of a place.
 fn push_url(alloc: Global, origins: &mut Texts, place: &[u8]) -> Result<(), NoMemory>
     ensures { OnOk result (origins.new ≡ origins.old ++ url_of place.now ∷ []) }
 {
-    let mut escaped = String::new(alloc);
-    push_escaped(&mut escaped, place)?;
+    let escaped = escape(alloc, place)?;
     push_joined(alloc, origins, b"http://", escaped.as_bytes())
 }
 
