@@ -10,6 +10,9 @@ work=$(mktemp -d)
 trap 'rm -rf "$work"' EXIT
 cp -r tests/check-conf "$work/conf"
 mkdir "$work/empty"
+# Neither is a list file: a folder, and a link to nothing, as editors leave beside a file.
+mkdir "$work/conf/groups/mirrors_debian_folder"
+ln -s nowhere "$work/conf/groups/.#acng.conf"
 
 failed=0
 # expect FOLDER STATUS TEXT WORD..: the program's status and output, run in that folder

@@ -8,6 +8,7 @@ use acng_conf::ListFile;
 use std::alloc::{AllocError, Global};
 use std::fs::File;
 use std::io::ErrorKind;
+use std::path::AsPath;
 use std::rt::Files;
 use std::{fs, io};
 
@@ -63,7 +64,7 @@ pub fn lists_beside<R: Files<File = File> + AllocGlobal + Clone + Drop>(
     let mut lists = Vec::new(alloc);
     for entry in fs::read_dir(rt, folder)? {
         let entry = entry?;
-        if entry.file_name() != own && fs::metadata(rt, entry.path())?.is_file() {
+        if entry.file_name() != own && is_regular(rt, entry.path())? {
             let name = Text::copy(alloc, entry.file_name().as_bytes())?;
             let bytes = Text::of(fs::read(rt, entry.path())?);
             let Ok(()) = lists.push(ListFile { name, bytes }) else {
@@ -73,6 +74,15 @@ pub fn lists_beside<R: Files<File = File> + AllocGlobal + Clone + Drop>(
     }
     lists.sort_unstable_by(|a, b| a.name.as_bytes().cmp(b.name.as_bytes()));
     Ok(lists)
+}
+
+// A link to nothing isn't a regular file, nor is one that was removed meanwhile.
+fn is_regular<P: AsPath>(files: &impl Files<File = File>, path: P) -> Result<bool, FilesFault> {
+    match fs::metadata(files, path) {
+        Ok(about) => Ok(about.is_file()),
+        Err(error) if error.kind() == ErrorKind::NotFound => Ok(false),
+        Err(error) => Err(FilesFault::from(error)),
+    }
 }
 
 // The folder of a file, and its name there.
