@@ -65,6 +65,18 @@ impl CachePath {
         }
     }
 
+    /// The path that these bytes are, in memory that the caller has filled. Takes no memory.
+    pub fn of(bytes: Vec<u8>) -> Result<CachePath, PathFault>
+        ensures path { IfOk result (λ path. path ≡ bytes.items) }
+        ensures accepted { OnOk result (path_refusal bytes.items ≡ None) }
+        ensures refused { IfErr result (λ fault. path_refusal bytes.items ≡ Some fault) }
+    {
+        match CachePath::refusal(bytes.as_slice()) {
+            Some(fault) => Err(fault),
+            None => Ok(CachePath { bytes }),
+        }
+    }
+
     /// Why a text is no path; None where it is one. Never `NoMemory`.
     pub fn refusal(text: &[u8]) -> Option<PathFault>
         ensures { result ≡ path_refusal text.now }

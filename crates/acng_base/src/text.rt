@@ -68,7 +68,14 @@ impl Texts {
         ensures added { OnOk result (self.new ≡ self.old ++ bytes.now ∷ []) }
         ensures refused { OnErr result (self.new ≡ self.old) }
     {
-        let text = Text::copy(alloc, bytes)?;
+        self.push_text(Text::copy(alloc, bytes)?)
+    }
+
+    /// Adds the text itself at the end. A refusal leaves the list as it was.
+    pub fn push_text(&mut self, text: Text) -> Result<(), NoMemory>
+        ensures added { OnOk result (self.new ≡ self.old ++ text ∷ []) }
+        ensures refused { OnErr result (self.new ≡ self.old) }
+    {
         self.items.push(text)?;
         Ok(())
     }
