@@ -3,6 +3,7 @@ mod Digits
 mod Escapes
 mod Globs
 mod Lines
+mod Names
 mod Owners
 pub mod Patterns
 mod Rows

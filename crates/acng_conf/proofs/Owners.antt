@@ -1,16 +1,19 @@
 -- Which group an entry merges into, after one more entry.
-use Rattle.std.proofs.Common.{◌≡◌, ℕ, zero, suc, ◌+◌, ◌<◌, Bool, true, false, ◌||◌, List, [], ◌∷◌, Option, Some, None, cond, length, set, get_or, bytes_eq, refl, sym, ap, ◌∙◌, subst, arith}
-use Rattle.std.specs.List.{position_from}
-use Rattle.std.specs.Ordering.{nat_cmp}
+use Rattle.std.proofs.Common.{◌≡◌, ℕ, zero, suc, ◌+◌, ◌<◌, Bool, true, false, ◌||◌, List, [], ◌∷◌, ◌++◌, Option, Some, None, IfSome, cond, length, set, get_or, bytes_eq, nat_lt, refl, sym, ap, ◌∙◌, subst, arith}
+use Rattle.std.specs.List.{list_any, position, position_from, position_or_len}
+use Rattle.std.specs.Ordering.{is_eq, nat_cmp}
 use Rattle.std.specs.Cmp.Lexicographic.{slice_cmp}
-use Rattle.std.specs.BTreeMap.{BTreeMap, get, Updates}
+use Rattle.std.specs.BTreeMap.{BTreeMap, Updates}
+use Rattle.std.specs.Map.{KeepsOthers}
 use Rattle.std.proofs.lemmas.List.Folds.{list_any-append}
 use Rattle.std.proofs.lemmas.Slice.Eq.{bytes_eq-Decides}
 use Rattle.std.proofs.lemmas.Iterator.Adapters.{position_from-zero}
 use Rattle.std.proofs.lemmas.Map.Text.{is_eq-slice_cmp}
 use Rattle.std.proofs.lemmas.Grind.{common_steps}
-use Rattle.acng_conf.specs.Settings.{Mirrors}
-use Rattle.acng_conf.specs.Readings.{has_entry, owner, with_place}
+use borrow.Author.Tests.{ltb-true}
+use Rattle.acng_conf.specs.LookUps.{owner_in}
+use Rattle.acng_conf.specs.Settings.{Mirrors, Settings}
+use Rattle.acng_conf.specs.Readings.{has_entry, owner, with_place, new_group, named_at, group_at, with_group, naming}
 
 abbrev owner_from : List ℕ → ℕ → List Mirrors → Option ℕ
 owner_from x i groups = position_from (has_entry x) i groups
@@ -76,11 +79,77 @@ owner_after x e d groups k lt h = cases (bytes_eq e x) refl
         position_from-zero (has_entry x) (set groups k (with_place e (get_or groups k d)))
         ∙ other x e d groups k 0 t ∙ sym (position_from-zero (has_entry x) groups)
 
--- the map answers as the groups do, after both got the entry
-pub agrees : (old new : BTreeMap (List ℕ) ℕ) (e : List ℕ) (d : Mirrors) (groups : List Mirrors) (k : ℕ) → k < length groups → owner e groups ≡ None
-    → ((x : List ℕ) → get (slice_cmp nat_cmp) old x ≡ owner x groups) → Updates (slice_cmp nat_cmp) old new e (Some k)
-    → (x : List ℕ) → get (slice_cmp nat_cmp) new x ≡ owner x (set groups k (with_place e (get_or groups k d)))
-agrees old new e d groups k lt none same_then u x =
-    u.0 x ∙ ap (λ b. cond b (Some k) (get (slice_cmp nat_cmp) old x)) (is_eq-slice_cmp e x)
-    ∙ ap (λ o. cond (bytes_eq e x) (Some k) o) (same_then x)
-    ∙ sym (owner_after x e d groups k lt none)
+-- ---- the map
+
+texts_eq : (xs ys : List ℕ) → is_eq (slice_cmp nat_cmp xs ys) ≡ true → xs ≡ ys
+texts_eq xs ys h = is_one xs ys (sym (is_eq-slice_cmp xs ys) ∙ h)
+
+differ : (x e q : List ℕ) → bytes_eq e x ≡ false → e ≡ q → is_eq (slice_cmp nat_cmp x q) ≡ false
+differ x e q h same = is_eq-slice_cmp x q ∙ other_way (subst (λ t. bytes_eq t x ≡ false) same h)
+  where
+    other_way : bytes_eq q x ≡ false → bytes_eq x q ≡ false
+    other_way n = grind (arith, common_steps, bytes_eq-Decides)
+
+module _ {K : Type 0} (text : K → List ℕ) where
+  -- what the map has once a key was put in
+  put_in : (old new : BTreeMap K ℕ) (key : K) (k : ℕ) → Updates (λ a b. slice_cmp nat_cmp (text a) (text b)) old new key (Some k)
+      → (x : List ℕ) → owner_in text new x ≡ cond (bytes_eq (text key) x) (Some k) (owner_in text old x)
+  unfolding KeepsOthers
+  put_in old new key k u x = cases (bytes_eq (text key) x) refl
+    where
+      cases : (b : Bool) → bytes_eq (text key) x ≡ b → owner_in text new x ≡ cond b (Some k) (owner_in text old x)
+      cases true h = subst (λ t. owner_in text new t ≡ Some k) (is_one (text key) x h) u.1
+      cases false h =
+          u.3 (λ q. is_eq (slice_cmp nat_cmp x (text q)))
+          (λ a b same. ap (λ t. is_eq (slice_cmp nat_cmp t (text b))) (texts_eq x (text a) same))
+          (λ q same. differ x (text key) (text q) h (texts_eq (text key) (text q) same))
+
+  -- the map answers as the groups do, after both got the entry
+  pub agrees : (old new : BTreeMap K ℕ) (key : K) (d : Mirrors) (groups : List Mirrors) (k : ℕ) → k < length groups → owner (text key) groups ≡ None
+      → ((x : List ℕ) → owner_in text old x ≡ owner x groups) → Updates (λ a b. slice_cmp nat_cmp (text a) (text b)) old new key (Some k)
+      → (x : List ℕ) → owner_in text new x ≡ owner x (set groups k (with_place (text key) (get_or groups k d)))
+  agrees old new key d groups k lt none same_then u x =
+      put_in old new key k u x ∙ ap (λ o. cond (bytes_eq (text key) x) (Some k) o) (same_then x)
+      ∙ sym (owner_after x (text key) d groups k lt none)
+
+-- ---- what leaves each owner
+
+-- a group changed, but not in its entries
+pub unmoved : (f : Mirrors → Mirrors) → ((g : Mirrors) → (f g).merging ≡ g.merging) → (d : Mirrors) (groups : List Mirrors) (k : ℕ) (x : List ℕ)
+    → owner x (set groups k (f (get_or groups k d))) ≡ owner x groups
+unmoved f keeps d groups k x =
+    position_from-zero (has_entry x) (set groups k (f (get_or groups k d))) ∙ from groups k 0 ∙ sym (position_from-zero (has_entry x) groups)
+  where
+    from : (gs : List Mirrors) (k i : ℕ) → owner_from x i (set gs k (f (get_or gs k d))) ≡ owner_from x i gs
+    from [] k i = refl
+    from (g ∷ gs) zero i = ap (λ m. cond (list_any (λ e. bytes_eq e x) m) (Some i) (owner_from x (i + 1) gs)) (keeps g)
+    from (g ∷ gs) (suc k) i = ap (λ o. cond (has_entry x g) (Some i) o) (from gs k (i + 1))
+
+-- a group more, without entries
+pub joined : (g : Mirrors) (groups : List Mirrors) (x : List ℕ) → g.merging ≡ [] → owner x (groups ++ g ∷ []) ≡ owner x groups
+joined g groups x none =
+    position_from-zero (has_entry x) (groups ++ g ∷ []) ∙ from groups 0 ∙ sym (position_from-zero (has_entry x) groups)
+  where
+    from : (gs : List Mirrors) (i : ℕ) → owner_from x i (gs ++ g ∷ []) ≡ owner_from x i gs
+    from [] i = ap (λ m. cond (list_any (λ e. bytes_eq e x) m) (Some i) None) none
+    from (h ∷ hs) i = ap (λ o. cond (has_entry x h) (Some i) o) (from hs (i + 1))
+
+-- a line that names a group
+pub after_naming : (name : List ℕ) (n : ℕ) (s : Settings) (x : List ℕ) → owner x (naming name n s).groups ≡ owner x s.groups
+after_naming name n s x =
+    unmoved (named_at n) (λ g. refl) (new_group [] 0) (with_group name n s.groups) (group_at name s.groups) x
+    ∙ cases (nat_lt (group_at name s.groups) (length s.groups))
+  where
+    cases : (t : Bool) → owner x (cond t s.groups (s.groups ++ new_group name n ∷ [])) ≡ owner x s.groups
+    cases true = refl
+    cases false = joined (new_group name n) s.groups x refl
+
+-- ---- numbers of groups
+
+-- what is found stands in the list
+pub found_within : {X : Type 0} (p : X → Bool) (xs : List X) → IfSome (position p xs) (λ k. k < length xs)
+found_within p xs = cases (nat_lt (position_or_len p xs) (length xs)) refl
+  where
+    cases : (t : Bool) → nat_lt (position_or_len p xs) (length xs) ≡ t → IfSome (cond t (Some (position_or_len p xs)) None) (λ k. k < length xs)
+    cases true e = ltb-true _ _ e
+    cases false e = tt

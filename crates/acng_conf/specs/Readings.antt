@@ -1,5 +1,5 @@
 -- What a configuration's text says, line by line, or the first refusal.
-use Rattle.std.specs.Prelude.{ℕ, ◌+◌, Bool, true, false, ◌&&◌, ◌||◌, ◌==◌, nat_le, nat_lt, List, [], ◌∷◌, ◌++◌, cond, bytes_eq, chars, map, take, drop, length, position, insert, set, slice_index_or, Option, Some, None, Result, Ok, Err, MatchResult, unwrap_or, ◌≡◌, ◌≢◌}
+use Rattle.std.specs.Prelude.{ℕ, ◌+◌, Bool, true, false, not, ◌&&◌, ◌||◌, ◌==◌, nat_le, nat_lt, List, [], ◌∷◌, ◌++◌, cond, bytes_eq, chars, map, take, drop, length, position, insert, set, slice_index_or, Option, Some, None, Result, Ok, Err, MatchResult, unwrap_or, ◌≡◌, ◌≢◌}
 use Rattle.std.specs.List.{list_any}
 use Rattle.std.specs.Option.{option_map_or}
 use Rattle.std.specs.Str.{is_utf8}
@@ -74,9 +74,21 @@ with_pattern source s = cond (is_pattern source) (Ok s) (Err BadPattern)
 abbrev pub new_group : List ℕ → ℕ → Mirrors
 new_group name n = record { name = name; merging = []; targets = []; last = n }
 
--- the place of the group of this name; the length where there is none
+-- the number of the group of this name
+abbrev pub called : List ℕ → List Mirrors → Option ℕ
+called name groups = position (λ g. bytes_eq g.name name) groups
+
+-- the same; the length where there is none
 abbrev pub group_at : List ℕ → List Mirrors → ℕ
-group_at name groups = unwrap_or (position (λ g. bytes_eq g.name name) groups) (length groups)
+group_at name groups = unwrap_or (called name groups) (length groups)
+
+abbrev pub has_name : List ℕ → List Mirrors → Bool
+has_name name groups = list_any (λ g. bytes_eq g.name name) groups
+
+-- each group has a name that a key may have, and no other has it
+abbrev pub are_names : List Mirrors → Bool
+are_names [] = true
+are_names (g ∷ gs) = is_group_name g.name && (not (has_name g.name gs) && are_names gs)
 
 abbrev pub with_group : List ℕ → ℕ → List Mirrors → List Mirrors
 with_group name n groups = cond (nat_lt (group_at name groups) (length groups)) groups (groups ++ new_group name n ∷ [])

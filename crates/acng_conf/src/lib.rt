@@ -10,11 +10,10 @@
 
 pub mod conf;
 mod cut;
-mod entry;
 pub mod fault;
 mod glob;
+pub mod group;
 mod key;
-mod making;
 mod number;
 mod pattern;
 pub mod place;
@@ -24,10 +23,13 @@ mod remap;
 mod setting;
 #[cfg(test)]
 mod tests;
+mod values;
+mod warn;
 mod work;
 
-pub use conf::{Conf, Group};
+pub use conf::Conf;
 pub use fault::{ConfCause, ConfFault, ListFile, WarnCause, Warning};
+pub use group::Group;
 pub use place::{ESCAPED, escape, plain_path};
 pub use print::{print_conf, print_fault};
 pub use read::read_conf;

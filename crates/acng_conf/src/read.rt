@@ -8,7 +8,6 @@ use crate::conf::Conf;
 use crate::cut::{is_skipped, next_lf, trim, without_comment, without_cr};
 use crate::fault::{ConfCause, ConfFault, ListFile};
 use crate::key::{Key, is_key, key_of};
-use crate::making::Making;
 use acng_base::NoMemory;
 use std::alloc::Global;
 
@@ -23,10 +22,10 @@ pub fn read_conf(alloc: Global, text: &[u8], lists: &[ListFile]) -> Result<Conf,
     ensures conf { IfOk result (λ conf. reading text.now lists.now ≡ Ok conf) }
     ensures refused { IfErr result (λ fault. fault.cause ≢ ConfCause.NoMemory → reading text.now lists.now ≡ Err fault) }
 {
-    let Ok(making) = Making::new(alloc) else {
+    let Ok(conf) = Conf::new(alloc) else {
         return Err(out_of_memory());
     };
-    let read = making.read_text(alloc, lists, text.len() > MOST, front(text))?;
+    let read = conf.read_text(alloc, lists, text.len() > MOST, front(text))?;
     match read.finish() {
         Ok(conf) => Ok(conf),
         Err(NoMemory) => Err(out_of_memory()),
@@ -79,7 +78,7 @@ fn after(text: &[u8], k: usize) -> &[u8]
     trim(&text[k + 1..])
 }
 
-impl Making {
+impl Conf {
     // The lines of a text, which goes on past its limit where it is `over`.
     fn read_text(
         self,
@@ -87,22 +86,22 @@ impl Making {
         lists: &[ListFile],
         over: bool,
         text: &[u8],
-    ) -> Result<Making, ConfFault>
+    ) -> Result<Conf, ConfFault>
         requires { length text.now ≤ 4194304 }
         ensures { GivesAt (after_lines over lists.now 1 self (pieces text.now)) result }
     {
-        let mut making = self;
+        let mut conf = self;
         let mut line = 1;
         let mut start = 0;
         while let Some(len) = next_lf(&text[start..]) {
-            match making.read_at(alloc, lists, line, without_cr(&text[start..start + len])) {
-                Ok(next) => making = next,
+            match conf.read_at(alloc, lists, line, without_cr(&text[start..start + len])) {
+                Ok(next) => conf = next,
                 Err(fault) => return Err(fault),
             }
             start += len + 1;
             line += 1;
         }
-        making.read_last(alloc, lists, over, line, &text[start..])
+        conf.read_last(alloc, lists, over, line, &text[start..])
     }
 
     // The last line, or the one that goes past the limit.
@@ -113,7 +112,7 @@ impl Making {
         over: bool,
         line: u32,
         text: &[u8],
-    ) -> Result<Making, ConfFault>
+    ) -> Result<Conf, ConfFault>
         ensures { GivesAt (at_line line (cond over (Err ConfCause.TooLong) (after_line lists.now line self text.now))) result }
     {
         if over {
@@ -132,11 +131,11 @@ impl Making {
         lists: &[ListFile],
         line: u32,
         text: &[u8],
-    ) -> Result<Making, ConfFault>
+    ) -> Result<Conf, ConfFault>
         ensures { GivesAt (at_line line (after_line lists.now line self text.now)) result }
     {
         match self.read_line(alloc, lists, line, text) {
-            Ok(making) => Ok(making),
+            Ok(conf) => Ok(conf),
             Err(cause) => Err(ConfFault { line, cause }),
         }
     }
@@ -147,7 +146,7 @@ impl Making {
         lists: &[ListFile],
         line: u32,
         text: &[u8],
-    ) -> Result<Making, ConfCause>
+    ) -> Result<Conf, ConfCause>
         ensures { Gives (after_line lists.now line self text.now) result }
     {
         let said = trim(text);
@@ -166,7 +165,7 @@ impl Making {
         lists: &[ListFile],
         line: u32,
         text: &[u8],
-    ) -> Result<Making, ConfCause>
+    ) -> Result<Conf, ConfCause>
         ensures { Gives (after_text lists.now line self text.now) result }
     {
         match colon(text) {
@@ -182,7 +181,7 @@ impl Making {
         line: u32,
         key: &[u8],
         value: &[u8],
-    ) -> Result<Making, ConfCause>
+    ) -> Result<Conf, ConfCause>
         ensures { Gives (after_key lists.now line self key.now value.now) result }
     {
         if !is_key(key) {
@@ -200,7 +199,7 @@ impl Making {
         key: &[u8],
         value: &[u8],
         is: Key,
-    ) -> Result<Making, ConfCause>
+    ) -> Result<Conf, ConfCause>
         ensures { Gives (after_value lists.now line self key.now value.now is) result }
     {
         if is_remap(is) {
@@ -216,12 +215,12 @@ impl Making {
         line: u32,
         value: &[u8],
         key: Key,
-    ) -> Result<Making, ConfCause>
+    ) -> Result<Conf, ConfCause>
         ensures { Gives (plain_value line self value.now key) result }
     {
-        let Making { conf, owners } = self;
-        let conf = conf.set(alloc, line, key, value)?;
-        Ok(Making { conf, owners })
+        let Conf { values, owners } = self;
+        let values = values.set(alloc, line, key, value)?;
+        Ok(Conf { values, owners })
     }
 }
 

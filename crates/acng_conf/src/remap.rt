@@ -1,15 +1,15 @@
 //! The lines of groups, added to a configuration in the making.
-ghost use Rattle.std.specs.Prelude.{◌≡◌, ◌++◌, ◌∷◌, ◌<◌, ◌≤◌, ℕ, List, Ok, IfOk, OnOk, IfSome, length, map, slice_index_or, Some, None, Err, Option, cond, ◌==◌, ◌+◌, position, bytes_eq};
-ghost use Rattle.acng_conf.specs.Cuts.{words};
-ghost use Rattle.acng_conf.specs.Remaps.{Work as WorkView, first_section, work_of};
-ghost use Rattle.acng_conf.specs.Readings.{Gives, new_group, group_at, naming, with_place, with_targets, change, owner, merge, merge_all, add_words, add_work, add_remap, after_merging, within_limits, with_warnings, held_at, is_too_many};
+ghost use Rattle.std.specs.Prelude.{◌≡◌, ◌++◌, ◌∷◌, ◌<◌, ◌≤◌, ℕ, List, Ok, IfOk, OnOk, IfSome, length, Some, None, Err, Option, cond, ◌==◌, ◌+◌, true};
+ghost use Rattle.acng_conf.specs.Keys.{is_group_name};
+ghost use Rattle.acng_conf.specs.Remaps.{Work as WorkView};
+ghost use Rattle.acng_conf.specs.Readings.{Gives, group_at, called, naming, with_place, with_targets, change, owner, merge, merge_all, add_words, add_work, add_remap, after_merging, with_warnings, is_too_many};
 
-use crate::conf::{Conf, Group};
+use crate::conf::Conf;
 use crate::cut::words;
-use crate::entry::Entry;
 use crate::fault::{ConfCause, ListFile, WarnCause};
+use crate::group::Group;
 use crate::key::is_group_name;
-use crate::making::Making;
+use crate::values::Values;
 use crate::work::{WordFault, Work, read_words, section_len};
 use acng_base::{NoMemory, Text, Texts};
 use std::alloc::Global;
@@ -20,7 +20,7 @@ const MOST_GROUPS: usize = 256;
 /// The most entries that merge.
 const MOST_ENTRIES: u64 = 20_000;
 
-impl Making {
+impl Conf {
     /// The line of a group.
     pub fn add_remap(
         self,
@@ -29,25 +29,26 @@ impl Making {
         line: u32,
         name: &[u8],
         value: &[u8],
-    ) -> Result<Making, ConfCause>
+    ) -> Result<Conf, ConfCause>
         ensures { Gives (add_remap lists.now line self name.now value.now) result }
     {
         if !is_group_name(name) {
             return Err(ConfCause::NotALine);
         }
         let words = words(alloc, value)?;
-        let k = self.conf.group_at(name);
+        let k = self.values.group_at(name);
         let named = self.name_group(alloc, line, name)?;
         named.add_words(alloc, lists, line, k, words.as_slice())
     }
 
     // The group of the name stands among the groups, at the place where it stood or after the others.
-    fn name_group(self, alloc: Global, line: u32, name: &[u8]) -> Result<Making, NoMemory>
-        ensures { IfOk result (λ making. (making ≡ naming name.now line self) × (group_at name.now self.groups < length making.groups)) }
+    fn name_group(self, alloc: Global, line: u32, name: &[u8]) -> Result<Conf, NoMemory>
+        requires { is_group_name name.now ≡ true }
+        ensures { IfOk result (λ conf. (conf ≡ naming name.now line self) × (group_at name.now self.groups < length conf.groups)) }
     {
-        let Making { mut conf, owners } = self;
-        conf.name_group(alloc, line, name)?;
-        Ok(Making { conf, owners })
+        let Conf { mut values, owners } = self;
+        values.name_group(alloc, line, name)?;
+        Ok(Conf { values, owners })
     }
 
     fn add_words(
@@ -57,11 +58,11 @@ impl Making {
         line: u32,
         k: usize,
         words: &[Text],
-    ) -> Result<Making, ConfCause>
+    ) -> Result<Conf, ConfCause>
         requires { k < length self.groups }
         ensures { Gives (add_words lists.now line k self words.now) result }
     {
-        let held = self.conf.groups[k].targets().len();
+        let held = self.values.groups[k].targets().len();
         match read_words(alloc, lists, held, words) {
             Ok(work) => self.add_work(alloc, line, k, words, &work),
             Err(WordFault::NoMemory) => Err(ConfCause::NoMemory),
@@ -76,7 +77,7 @@ impl Making {
         k: usize,
         words: &[Text],
         work: &Work,
-    ) -> Result<Making, ConfCause>
+    ) -> Result<Conf, ConfCause>
         requires { k < length self.groups }
         ensures { Gives (add_work line k self words.now (Some work.now)) result }
     {
@@ -88,54 +89,47 @@ impl Making {
     }
 
     // Targets and warnings, and the limits.
-    fn add_rest(self, alloc: Global, line: u32, k: usize, work: &Work) -> Result<Making, ConfCause>
+    fn add_rest(self, alloc: Global, line: u32, k: usize, work: &Work) -> Result<Conf, ConfCause>
         requires { k < length self.groups }
         ensures { Gives (after_merging line k work.now self) result }
     {
-        let Making { mut conf, owners } = self;
-        conf.add_targets(alloc, k, work.targets())?;
-        conf.warn_all(line, work.causes())?;
-        if conf.is_too_many() {
+        let Conf { mut values, owners } = self;
+        values.add_targets(alloc, k, work.targets())?;
+        values.warn_all(line, work.causes())?;
+        if values.is_too_many() {
             return Err(ConfCause::TooMany);
         }
-        Ok(Making { conf, owners })
+        Ok(Conf { values, owners })
     }
 
-    fn merge_all(self, alloc: Global, k: usize, entries: &Texts) -> Result<Making, ConfCause>
+    fn merge_all(self, alloc: Global, k: usize, entries: &Texts) -> Result<Conf, ConfCause>
         requires { k < length self.groups }
         ensures step { Gives (merge_all k self entries.now) result }
-        ensures groups { IfOk result (λ making. length making.groups ≡ length self.groups) }
+        ensures groups { IfOk result (λ conf. length conf.groups ≡ length self.groups) }
     {
-        let mut making = self;
+        let mut conf = self;
         for i in 0..entries.len() {
-            making = making.merge(alloc, k, entries.get(i))?;
+            conf = conf.merge(alloc, k, entries.get(i))?;
         }
-        Ok(making)
+        Ok(conf)
     }
 
     // An entry merges into one group; twice into the same one counts once.
-    fn merge(self, alloc: Global, k: usize, entry: &[u8]) -> Result<Making, ConfCause>
+    fn merge(self, alloc: Global, k: usize, entry: &[u8]) -> Result<Conf, ConfCause>
         requires { k < length self.groups }
         ensures step { Gives (merge k self entry.now) result }
-        ensures groups { IfOk result (λ making. length making.groups ≡ length self.groups) }
+        ensures groups { IfOk result (λ conf. length conf.groups ≡ length self.groups) }
     {
-        let key = Entry::copy(alloc, entry)?;
-        match self.owner(&key) {
+        match self.owner(entry) {
             Some(j) => self.merge_again(k, j),
-            None => Ok(self.merge_first(alloc, k, key, entry)?),
+            None => Ok(self.merge_first(alloc, k, entry)?),
         }
     }
 
-    fn owner(&self, entry: &Entry) -> Option<usize>
-        ensures { result ≡ owner entry.now self.now.groups }
-    {
-        self.owners.get(entry).copied()
-    }
-
     // An entry that merges into group j already.
-    fn merge_again(self, k: usize, j: usize) -> Result<Making, ConfCause>
+    fn merge_again(self, k: usize, j: usize) -> Result<Conf, ConfCause>
         ensures step { Gives (cond (j == k) (Ok self) (Err ConfCause.TwiceMerged)) result }
-        ensures groups { IfOk result (λ making. length making.groups ≡ length self.groups) }
+        ensures groups { IfOk result (λ conf. length conf.groups ≡ length self.groups) }
     {
         if j == k {
             Ok(self)
@@ -145,40 +139,42 @@ impl Making {
     }
 
     // An entry that merges into no group yet.
-    fn merge_first(
-        self,
-        alloc: Global,
-        k: usize,
-        key: Entry,
-        entry: &[u8],
-    ) -> Result<Making, NoMemory>
+    fn merge_first(self, alloc: Global, k: usize, entry: &[u8]) -> Result<Conf, NoMemory>
         requires within { k < length self.groups }
-        requires same { key ≡ entry.now }
         requires first { owner entry.now self.groups ≡ None }
-        ensures step { IfOk result (λ making. making ≡ change (with_place entry.now) k (record self { entries = self.entries + 1 })) }
-        ensures groups { IfOk result (λ making. length making.groups ≡ length self.groups) }
+        ensures step { IfOk result (λ conf. conf ≡ change (with_place entry.now) k (record self { entries = self.entries + 1 })) }
+        ensures groups { IfOk result (λ conf. length conf.groups ≡ length self.groups) }
     {
-        let Making {
-            mut conf,
+        let Conf {
+            mut values,
             mut owners,
         } = self;
-        conf.add_place(alloc, k, entry)?;
+        values.add_place(alloc, k, entry)?;
+        let key = Vec::from_slice(alloc, entry)?;
         let Ok(_) = owners.insert(key, k) else {
             return Err(NoMemory);
         };
-        Ok(Making { conf, owners })
+        Ok(Conf { values, owners })
     }
 }
 
-impl Conf {
+impl Values {
     fn group_at(&self, name: &[u8]) -> usize
         ensures place { result ≡ group_at name.now self.now.groups }
         ensures within { result ≤ length self.now.groups }
     {
-        match find_name(self.groups.as_slice(), name) {
+        match self.named(name) {
             Some(k) => k,
             None => self.groups.len(),
         }
+    }
+
+    /// The number of the group of this name.
+    pub(crate) fn named(&self, name: &[u8]) -> Option<usize>
+        ensures named { result ≡ called name.now self.now.groups }
+        ensures within { IfSome result (λ k. k < length self.now.groups) }
+    {
+        self.groups.iter().position(|g| g.name() == name)
     }
 
     fn name_group(&mut self, alloc: Global, line: u32, name: &[u8]) -> Result<(), NoMemory>
@@ -226,11 +222,4 @@ impl Conf {
     {
         self.groups.len() > MOST_GROUPS || self.entries > MOST_ENTRIES
     }
-}
-
-fn find_name(groups: &[Group], name: &[u8]) -> Option<usize>
-    ensures place { result ≡ position (λ g. bytes_eq g.name name.now) groups.now }
-    ensures within { IfSome result (λ k. k < length groups.now) }
-{
-    groups.iter().position(|g| g.name() == name)
 }

@@ -1,5 +1,5 @@
 use Rattle.std.proofs.Common.{◌≡◌, ◌++◌, take}
-use Rattle.acng_conf.proofs.conf.push_all.Given as goal
+use Rattle.acng_conf.proofs.group.push_all.Given as goal
 
 abbrev pub invariant-loop-i : goal.invariant-loop-i
 invariant-loop-i l = l.all ≡ l.initial.all ++ take l.i l.more

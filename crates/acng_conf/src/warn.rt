@@ -1,64 +1,16 @@
-//! A configuration in the making.
-//!
-//! `owners` says which group an entry merges into: the look-up that a walk over the groups' lists would give. Each step
-//! takes the whole and gives it back, so that none is seen whose look-up and lists differ.
-ghost use Rattle.std.specs.Prelude.{◌≡◌, ◌++◌, ◌∷◌, ◌<◌, ◌≤◌, ℕ, List, [], cond, IfOk, OnOk, IfSome, length, slice_index_or, unwrap_or, position, nat_lt, drop};
+//! Warnings: of a line, and of groups that have a prefix and no target.
+ghost use Rattle.std.specs.Prelude.{◌≡◌, ◌++◌, ◌∷◌, ◌<◌, ◌≤◌, ℕ, List, [], cond, IfOk, OnOk, IfSome, length, unwrap_or, position, nat_lt};
 ghost use Rattle.std.specs.List.{list_any};
 ghost use Rattle.acng_conf.specs.Cuts.{begins_with};
-ghost use Rattle.acng_conf.specs.Settings.{Settings, defaults};
-ghost use Rattle.acng_conf.specs.Readings.{finished, with_no_targets, put_warning, lacks_target, with_warning, first_later};
+ghost use Rattle.acng_conf.specs.Readings.{finished, with_no_targets, put_warning, lacks_target, with_warning, with_warnings, first_later};
 
-use crate::conf::{Conf, Group};
 use crate::cut::begins_with;
-use crate::entry::Entry;
 use crate::fault::{WarnCause, Warning};
+use crate::group::Group;
+use crate::values::Values;
 use acng_base::{NoMemory, Texts};
-use std::alloc::Global;
-use std::collections::BTreeMap;
-use std::marker::Model;
 
-#[derive(Drop)]
-pub struct Making {
-    pub(crate) conf: Conf,
-    pub(crate) owners: BTreeMap<Entry, usize>,
-}
-
-impl Model for Making {
-    ghost use Rattle.std.specs.Prelude.{◌≡◌, List, ℕ};
-    ghost use Rattle.acng_conf.specs.Settings.{Settings};
-    ghost use Rattle.std.specs.BTreeMap.{get};
-    ghost use Rattle.std.specs.Ordering.{nat_cmp};
-    ghost use Rattle.std.specs.Cmp.Lexicographic.{slice_cmp};
-    ghost use Rattle.acng_conf.specs.Readings.{owner};
-
-    ghost Value = { Settings };
-
-    ghost view = { λ m. m.conf };
-
-    ghost invariant = { λ m. (e : List ℕ) → get (slice_cmp nat_cmp) m.owners e ≡ owner e m.conf.groups };
-}
-
-impl Making {
-    /// What holds where no line says otherwise.
-    pub fn new(alloc: Global) -> Result<Making, NoMemory>
-        ensures { IfOk result (λ making. making ≡ defaults) }
-    {
-        Ok(Making {
-            conf: Conf::new(alloc)?,
-            owners: BTreeMap::new(alloc),
-        })
-    }
-
-    /// The whole: each group with a prefix and no target is warned of at its last line.
-    pub fn finish(self) -> Result<Conf, NoMemory>
-        ensures { IfOk result (λ conf. conf ≡ finished self) }
-    {
-        let Making { conf, owners: _ } = self;
-        conf.warn_of_groups()
-    }
-}
-
-impl Conf {
+impl Values {
     pub(crate) fn warn(&mut self, line: u32, cause: WarnCause) -> Result<(), NoMemory>
         ensures { OnOk result (self.new ≡ with_warning line cause self.old) }
     {
@@ -66,12 +18,11 @@ impl Conf {
         Ok(())
     }
 
-    fn warn_of_groups(self) -> Result<Conf, NoMemory>
-        ensures { IfOk result (λ conf. conf ≡ finished self) }
+    /// Each group with a prefix and no target is warned of at its last line.
+    pub(crate) fn warn_of_groups(&mut self) -> Result<(), NoMemory>
+        ensures { OnOk result (self.new ≡ finished self.old) }
     {
-        let mut conf = self;
-        warn_of(&mut conf.warnings, conf.groups.as_slice())?;
-        Ok(conf)
+        warn_of(&mut self.warnings, self.groups.as_slice())
     }
 }
 

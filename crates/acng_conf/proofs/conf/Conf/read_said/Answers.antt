@@ -1,7 +1,7 @@
 use Rattle.std.proofs.Common.{◌+◌, List, ℕ, Option, take, drop, subst}
 use Rattle.acng_conf.specs.Cuts.{trim}
 use Rattle.acng_conf.specs.Readings.{Gives, after_colon, after_key}
-use Rattle.acng_conf.proofs.making.Making.read_said.Goals as goal
+use Rattle.acng_conf.proofs.conf.Conf.read_said.Goals as goal
 
 pub returns-in-Some : goal.returns-in-Some
 returns-in-Some c =

@@ -1,7 +1,7 @@
 use Rattle.std.proofs.Common.{◌≡◌, Bool, true, List, ℕ, cond, sym, ◌∙◌, subst}
 use Rattle.acng_conf.specs.Keys.{group_name}
 use Rattle.acng_conf.specs.Readings.{Gives, is_remap, add_remap, plain_value}
-use Rattle.acng_conf.proofs.making.Making.read_value.Goals as goal
+use Rattle.acng_conf.proofs.conf.Conf.read_value.Goals as goal
 
 pub returns-then-is_remap : goal.returns-then-is_remap
 returns-then-is_remap c =

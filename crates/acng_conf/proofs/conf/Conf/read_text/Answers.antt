@@ -6,7 +6,7 @@ use Rattle.acng_conf.specs.Readings.{and_then, at_line, after_line, after_lines,
 use Rattle.acng_conf.specs.declared.fault.ConfCause.TheVariants.{TooLong}
 use Rattle.acng_conf.specs.declared.fault.ConfFault.{ConfFault}
 use Rattle.acng_conf.proofs.Lines.{lines_step, lines_last}
-use Rattle.acng_conf.proofs.making.Making.read_text.Goals as goal
+use Rattle.acng_conf.proofs.conf.Conf.read_text.Goals as goal
 
 pub returns-in-Err : goal.returns-in-Err
 returns-in-Err c = λ real.
@@ -15,11 +15,11 @@ returns-in-Err c = λ real.
     let start = c.loop-len.start in
     let len = c.in-Some.len in
     let n = c.loop-len.line in
-    let s = lines_step a.over a.lists.now n c.loop-len.making text start len c.loop-len.invariant.within (sym c.in-Some.ensures) in
+    let s = lines_step a.over a.lists.now n c.loop-len.conf text start len c.loop-len.invariant.within (sym c.in-Some.ensures) in
     let k : (start + len) - start ≡ len = omega arith in
     let line : c.without_cr.result.now ≡ without_cr (take len (drop start text)) = c.without_cr.ensures ∙ ap (λ j. without_cr (take j (drop start text))) k in
-    let step : at_line n (after_line a.lists.now n c.loop-len.making (without_cr (take len (drop start text)))) ≡ Err c.in-Err.fault =
-    ap (λ t. at_line n (after_line a.lists.now n c.loop-len.making t)) (sym line) ∙ c.in-Err.ensures real in
+    let step : at_line n (after_line a.lists.now n c.loop-len.conf (without_cr (take len (drop start text)))) ≡ Err c.in-Err.fault =
+    ap (λ t. at_line n (after_line a.lists.now n c.loop-len.conf t)) (sym line) ∙ c.in-Err.ensures real in
     c.loop-len.invariant.same ∙ s.1 ∙ ap (λ (r : Result Settings ConfFault). and_then r (λ t. after_lines a.over a.lists.now (n + 1) t (pieces (drop (start + (len + 1)) text)))) step
 
 pub loop-len-preserved : goal.loop-len-preserved
@@ -29,11 +29,11 @@ loop-len-preserved c =
     let start = c.loop-len.start in
     let len = c.in-Some.len in
     let n = c.loop-len.line in
-    let s = lines_step a.over a.lists.now n c.loop-len.making text start len c.loop-len.invariant.within (sym c.in-Some.ensures) in
+    let s = lines_step a.over a.lists.now n c.loop-len.conf text start len c.loop-len.invariant.within (sym c.in-Some.ensures) in
     let k : (start + len) - start ≡ len = omega arith in
     let line : c.without_cr.result.now ≡ without_cr (take len (drop start text)) = c.without_cr.ensures ∙ ap (λ j. without_cr (take j (drop start text))) k in
-    let step : at_line n (after_line a.lists.now n c.loop-len.making (without_cr (take len (drop start text)))) ≡ Ok c.in-Ok.next =
-    ap (λ t. at_line n (after_line a.lists.now n c.loop-len.making t)) (sym line) ∙ c.in-Ok.ensures in
+    let step : at_line n (after_line a.lists.now n c.loop-len.conf (without_cr (take len (drop start text)))) ≡ Ok c.in-Ok.next =
+    ap (λ t. at_line n (after_line a.lists.now n c.loop-len.conf t)) (sym line) ∙ c.in-Ok.ensures in
     record {
       within = s.0;
       small = c.loop-len.invariant.small;
@@ -47,7 +47,7 @@ returns c =
     let text = a.text.now in
     let start = c.loop-len.start in
     let n = c.loop-len.line in
-    let same : at_line n (cond a.over (Err TooLong) (after_line a.lists.now n c.loop-len.making (take (length text - start) (drop start text)))) ≡ after_lines a.over a.lists.now 1 a.self (pieces text) =
-    ap (λ (t : List ℕ). at_line n (cond a.over (Err TooLong) (after_line a.lists.now n c.loop-len.making t))) (rest_is_drop start text)
-    ∙ sym (c.loop-len.invariant.same ∙ lines_last a.over a.lists.now n c.loop-len.making text start (sym c.in_default.ensures)) in
+    let same : at_line n (cond a.over (Err TooLong) (after_line a.lists.now n c.loop-len.conf (take (length text - start) (drop start text)))) ≡ after_lines a.over a.lists.now 1 a.self (pieces text) =
+    ap (λ (t : List ℕ). at_line n (cond a.over (Err TooLong) (after_line a.lists.now n c.loop-len.conf t))) (rest_is_drop start text)
+    ∙ sym (c.loop-len.invariant.same ∙ lines_last a.over a.lists.now n c.loop-len.conf text start (sym c.in_default.ensures)) in
     subst (λ (e : Result Settings ConfFault). GivesAt e c.read_last.result) same c.read_last.ensures
