@@ -5,6 +5,7 @@ mod Globs
 mod Lines
 mod Owners
 pub mod Patterns
+mod Plain
 mod Rows
 mod Trims
 mod Words
