@@ -6,6 +6,7 @@ mod Lines
 mod Names
 mod Owners
 pub mod Patterns
+mod Plain
 mod Rows
 mod Trims
 mod Words

@@ -109,7 +109,7 @@ or_false : (a b : Bool) → (a || b) ≡ false → (a ≡ false) × (b ≡ false
 or_false true b h = cc
 or_false false b h = (refl, h)
 
-not_empty : (b : ℕ) (bs : List ℕ) → is_empty (b ∷ bs) ≡ false
+pub not_empty : (b : ℕ) (bs : List ℕ) → is_empty (b ∷ bs) ≡ false
 not_empty b bs = grind (arith, common_steps)
 
 -- a text that doesn't end here has a byte here, which stays

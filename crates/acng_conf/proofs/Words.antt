@@ -1,11 +1,9 @@
--- The words of a line and the segments of a path, one after another.
-use Rattle.std.proofs.Common.{◌≡◌, ℕ, suc, ◌+◌, ◌-◌, ◌<◌, ◌≤◌, Bool, true, false, not, List, [], ◌∷◌, ◌++◌, Some, None, map, length, take, drop, get_or, bytes_eq, codes, ◌||◌, refl, sym, ap, ◌∙◌, arith}
-use Rattle.std.specs.List.{position, slice_split, filter, concat}
+-- The words of a line, one after another, and `://` in a word.
+use Rattle.std.proofs.Common.{◌≡◌, ℕ, suc, ◌+◌, ◌-◌, ◌<◌, ◌≤◌, Bool, true, false, not, List, [], ◌∷◌, ◌++◌, Some, None, length, take, drop, get_or, bytes_eq, codes, ◌||◌, refl, sym, ap, ◌∙◌, arith}
+use Rattle.std.specs.List.{position, slice_split, filter}
 use Rattle.std.proofs.Math.Seq.{drop-cons, drop-length}
-use Rattle.std.proofs.lemmas.List.{append-nil}
-use Rattle.acng_base.specs.Paths.{is_slash}
 use Rattle.acng_conf.specs.Cuts.{is_blank, is_empty, words, some_word}
-use Rattle.acng_conf.specs.Places.{without_empty, some_segment, has_scheme}
+use Rattle.acng_conf.specs.Places.{has_scheme}
 use Rattle.acng_conf.proofs.Cutting.{cut_rest, last_rest}
 
 abbrev solid : List ℕ → Bool
@@ -34,29 +32,6 @@ words_last line start h = ap (filter solid) (last_rest is_blank line start h) �
         cases : (t : Bool) → is_empty x ≡ t → filter solid (x ∷ []) ≡ some_word x
         cases true e = rw e refl
         cases false e = rw e refl
-
-abbrev joined : List (List ℕ) → List ℕ
-joined ss = concat (map (λ s. 47 ∷ s) (filter solid ss))
-
-joined_first : (x : List ℕ) (xs : List (List ℕ)) → joined (x ∷ xs) ≡ some_segment x ++ joined xs
-joined_first x xs = cases (is_empty x) refl
-  where
-    cases : (t : Bool) → is_empty x ≡ t → joined (x ∷ xs) ≡ some_segment x ++ joined xs
-    cases true e = rw e refl
-    cases false e = rw e refl
-
-joined_last : (x : List ℕ) → joined (x ∷ []) ≡ some_segment x
-joined_last x = joined_first x [] ∙ append-nil (some_segment x)
-
-pub segments_step : (path : List ℕ) (start k : ℕ) → start ≤ length path → position is_slash (take (length path - start) (drop start path)) ≡ Some k
-    → (start + (k + 1) ≤ length path) × (without_empty (drop start path) ≡ some_segment (take k (drop start path)) ++ without_empty (drop (start + (k + 1)) path))
-segments_step path start k within h =
-    let cut = cut_rest is_slash path start k within h in
-    (cut.0, ap joined cut.1 ∙ joined_first (take k (drop start path)) (slice_split is_slash (drop (start + (k + 1)) path)))
-
-pub segments_last : (path : List ℕ) (start : ℕ) → position is_slash (take (length path - start) (drop start path)) ≡ None
-    → without_empty (drop start path) ≡ some_segment (drop start path)
-segments_last path start h = ap joined (last_rest is_slash path start h) ∙ joined_last (drop start path)
 
 -- ---- `://` in a word
 

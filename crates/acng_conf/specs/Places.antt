@@ -21,10 +21,6 @@ use Rattle.acng_conf.specs.declared.place.Section.TheVariants.{Merging, Targets}
 abbrev pub without_empty : List ℕ → List ℕ
 without_empty path = concat (map (λ s. 47 ∷ s) (filter (λ s. not (is_empty s)) (slice_split is_slash path)))
 
--- a slash and a segment, unless it is empty
-abbrev pub some_segment : List ℕ → List ℕ
-some_segment segment = cond (is_empty segment) [] (47 ∷ segment)
-
 -- the bytes that a path stands for, without empty segments
 abbrev pub plain_path : List ℕ → List ℕ
 plain_path path = without_empty (percent_decode path)

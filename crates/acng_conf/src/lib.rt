@@ -30,6 +30,6 @@ mod work;
 pub use conf::Conf;
 pub use fault::{ConfCause, ConfFault, ListFile, WarnCause, Warning};
 pub use group::Group;
-pub use place::{ESCAPED, escape, plain_path};
+pub use place::{ESCAPED, push_escaped, push_plain};
 pub use print::{print_conf, print_fault};
 pub use read::read_conf;

@@ -2,13 +2,11 @@
 //!
 //! `url` reads a URL, and writes a domain in small letters; `percent_encoding` decodes and encodes paths. What `url`
 //! refuses for want of room counts as want of memory.
-ghost use Rattle.std.specs.Prelude.{◌≡◌, ◌++◌, ◌∷◌, List, [], IfOk, OnOk, IfErr, OnErr, option_map, codes, bytes_eq, drop, take, length, position, string_bytes, min, ◌≤◌};
+ghost use Rattle.std.specs.Prelude.{◌≡◌, ◌++◌, ◌∷◌, List, [], IfOk, OnOk, IfErr, OnErr, option_map, codes, bytes_eq, drop, take, length, min, ◌≤◌};
 ghost use Rattle.url.specs.Parts.{Parts, nonempty_host, host_or_empty};
 ghost use Rattle.url.specs.Host.{host_text};
 ghost use Rattle.url.specs.Parser.{parse_url};
-ghost use Rattle.percent_encoding.specs.Percent.{percent_encode, percent_decode};
-ghost use Rattle.acng_base.specs.Paths.{is_slash};
-ghost use Rattle.acng_conf.specs.Places.{without_empty, plain_path, is_path, escaped_path, is_plain_host, is_plain_http, has_scheme, as_url, if_plain, plain_of, read_plain, host_and_port, form, with_path, url_entry, prefix_entry, entry_of, some_segment};
+ghost use Rattle.acng_conf.specs.Places.{plain_path, is_path, escaped_path, is_plain_host, is_plain_http, has_scheme, as_url, if_plain, plain_of, read_plain, host_and_port, form, with_path, url_entry, prefix_entry, entry_of};
 
 use crate::cut::begins_with;
 use acng_base::{CachePath, NoMemory, Text};
@@ -206,70 +204,49 @@ fn target_form(alloc: Global, host: &[u8], path: &[u8]) -> Result<Text, NoMemory
 {
     let mut bytes = Vec::from_slice(alloc, b"http://")?;
     bytes.extend_from_slice(host)?;
-    let escaped = escape(alloc, path)?;
-    bytes.extend_from_slice(escaped.as_bytes())?;
+    push_escaped(&mut bytes, path)?;
     Ok(Text::of(bytes))
 }
 
-/// The path with each byte escaped but letters, digits and `-._~/+,:=@!$&'()*;`.
-pub fn escape(alloc: Global, path: &[u8]) -> Result<String, NoMemory>
-    ensures { IfOk result (λ text. string_bytes text ≡ escaped_path path.now) }
+/// Appends the path with each byte escaped but letters, digits and `-._~/+,:=@!$&'()*;`.
+pub fn push_escaped(bytes: &mut Vec<u8>, path: &[u8]) -> Result<(), NoMemory>
+    ensures { OnOk result (bytes.new.items ≡ bytes.old.items ++ escaped_path path.now) }
 {
-    encode(alloc, path)
+    for piece in percent_encode(path, ESCAPED) {
+        bytes.extend_from_slice(piece.as_bytes())?;
+    }
+    Ok(())
 }
 
-fn encode(alloc: Global, path: &[u8]) -> Result<String, NoMemory>
-    ensures { IfOk result (λ text. string_bytes text ≡ percent_encode ESCAPED path.now) }
-{
-    let mut text = String::new(alloc);
-    percent_encode(path, ESCAPED).append_to(&mut text)?;
-    Ok(text)
-}
-
-/// The bytes that a path stands for, without empty segments: a slash before each segment.
-pub fn plain_path(alloc: Global, path: &[u8]) -> Result<Vec<u8>, NoMemory>
+// The bytes that a path stands for, without empty segments: a slash before each segment.
+fn plain_path(alloc: Global, path: &[u8]) -> Result<Vec<u8>, NoMemory>
     ensures { IfOk result (λ bytes. bytes.items ≡ plain_path path.now) }
 {
-    let decoded = decode(alloc, path)?;
-    without_empty(alloc, decoded.as_slice())
-}
-
-fn decode(alloc: Global, path: &[u8]) -> Result<Vec<u8>, NoMemory>
-    ensures { IfOk result (λ bytes. bytes.items ≡ percent_decode path.now) }
-{
     let mut bytes = Vec::new(alloc);
-    percent_decode(path).append_to(&mut bytes)?;
+    push_plain(&mut bytes, path)?;
     Ok(bytes)
 }
 
-// The path without its empty segments: a slash before each.
-fn without_empty(alloc: Global, path: &[u8]) -> Result<Vec<u8>, NoMemory>
-    ensures { IfOk result (λ bytes. bytes.items ≡ without_empty path.now) }
+/// Appends the bytes that a path stands for, without empty segments: a slash before each segment.
+///
+/// It makes room once, at the start: a byte more than the path has, since the path may lack its first slash.
+pub fn push_plain(bytes: &mut Vec<u8>, path: &[u8]) -> Result<(), NoMemory>
+    ensures { OnOk result (bytes.new.items ≡ bytes.old.items ++ plain_path path.now) }
 {
-    let mut bytes = Vec::new(alloc);
-    let mut start = 0;
-    while let Some(len) = next_slash(&path[start..]) {
-        push_segment(&mut bytes, &path[start..start + len])?;
-        start += len + 1;
+    bytes.reserve(path.len().saturating_add(1))?;
+    // A slash comes with the first byte of a segment, so an empty segment leaves nothing.
+    let mut begins = true;
+    for b in percent_decode(path) {
+        if b == b'/' {
+            begins = true;
+            continue;
+        }
+        if begins {
+            bytes.push(b'/')?;
+            begins = false;
+        }
+        bytes.push(b)?;
     }
-    push_segment(&mut bytes, &path[start..])?;
-    Ok(bytes)
-}
-
-fn next_slash(text: &[u8]) -> Option<usize>
-    ensures { result ≡ position is_slash text.now }
-{
-    text.iter().position(|b| *b == b'/')
-}
-
-fn push_segment(bytes: &mut Vec<u8>, segment: &[u8]) -> Result<(), NoMemory>
-    ensures { OnOk result (bytes.new.items ≡ bytes.old.items ++ some_segment segment.now) }
-{
-    if segment.is_empty() {
-        return Ok(());
-    }
-    bytes.push(b'/')?;
-    bytes.extend_from_slice(segment)?;
     Ok(())
 }
 
