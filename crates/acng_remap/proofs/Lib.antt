@@ -4,5 +4,6 @@ pub mod Fits
 pub mod Following
 pub mod Fronts
 pub mod Longest
+pub mod Names
 pub mod Origins
 pub mod Slashes

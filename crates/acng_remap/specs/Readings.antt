@@ -1,10 +1,11 @@
 -- What a request asks for: the path in the cache, and the URLs from which the file may come.
-use Rattle.std.specs.Prelude.{ℕ, ◌+◌, not, ◌||◌, ◌==◌, List, [], ◌∷◌, ◌++◌, cond, codes, length, map, drop, bytes_eq, Option, Some, None, Result, Ok, Err, position, MatchResult, ◌≡◌, ◌≢◌, ◌≤◌}
+use Rattle.std.specs.Prelude.{ℕ, ◌+◌, not, ◌||◌, ◌==◌, List, [], ◌∷◌, ◌++◌, cond, codes, length, map, drop, bytes_eq, Option, Some, None, Result, Ok, Err, MatchResult, ◌≡◌, ◌≢◌, ◌≤◌}
 use Rattle.std.specs.Bool.{⊤}
 use Rattle.acng_base.specs.Paths.{path_refusal}
 use Rattle.acng_base.specs.declared.path.PathFault.TheVariants.{Empty}
 use Rattle.acng_base.specs.declared.path.PathFault.{PathFault}
 use Rattle.acng_conf.specs.Places.{plain_path, escaped_path}
+use Rattle.acng_conf.specs.Readings.{called}
 use Rattle.acng_conf.specs.Settings.{Mirrors, Settings}
 use Rattle.acng_remap.specs.Decisions.{deciding, home, group, has_target}
 use Rattle.acng_remap.specs.Forms.{is_tls, page_query, is_absolute, has_slash, has, after_start, before_slash, from_slash}
@@ -77,7 +78,7 @@ entry_file groups place entry (Some k) = group_file (group groups k) (rest_after
 
 -- a group's name is a host too, at port 80
 abbrev pub named_group : List Mirrors → List ℕ → ℕ → Option ℕ
-named_group groups host port = cond (port == 80) (position (λ g. bytes_eq g.name host) groups) None
+named_group groups host port = cond (port == 80) (called host groups) None
 
 abbrev pub named_file : List Mirrors → List ℕ → List ℕ → Option ℕ → Reading
 named_file groups place host None = own_file place host

@@ -2,14 +2,11 @@
 //!
 //! The fronts of the place that end where a segment ends are tried from the longest down, so the first that is an entry
 //! is the longest that fits. Each try is one look-up.
-ghost use Rattle.std.specs.Prelude.{◌≡◌, ◌≤◌, ◌<◌, Some, None, MatchOption, IfSome, length, take, bytes_eq, position};
-ghost use Rattle.std.specs.List.{list_any};
+ghost use Rattle.std.specs.Prelude.{◌≡◌, ◌≤◌, ◌<◌, Some, None, MatchOption, IfSome, length, take};
 ghost use Rattle.acng_conf.specs.Cuts.{begins_with};
-ghost use Rattle.acng_conf.specs.Readings.{owner};
 ghost use Rattle.acng_remap.specs.Decisions.{HasNoSlash, IsLastSlash, deciding, home, has_target, counts};
 
-use acng_base::Texts;
-use acng_conf::Group;
+use acng_conf::{Conf, Group};
 
 /// The group that has the deciding entry, and the entry's length.
 #[derive(Clone, Copy, Debug)]
@@ -19,12 +16,12 @@ pub struct Decided {
 }
 
 /// The longest front of the place that merges into a group.
-pub fn decide(groups: &[Group], place: &[u8]) -> Option<Decided>
-    ensures { MatchOption result (deciding groups.now place.now ≡ None) (λ d. (d.len ≤ length place.now) × (d.group < length groups.now) × (home groups.now (take d.len place.now) ≡ Some d.group) × (deciding groups.now place.now ≡ Some (take d.len place.now))) }
+pub fn decide(conf: &Conf, place: &[u8]) -> Option<Decided>
+    ensures { MatchOption result (deciding conf.now.groups place.now ≡ None) (λ d. (d.len ≤ length place.now) × (d.group < length conf.now.groups) × (home conf.now.groups (take d.len place.now) ≡ Some d.group) × (deciding conf.now.groups place.now ≡ Some (take d.len place.now))) }
 {
     let mut end = Some(place.len());
     while let Some(len) = end {
-        if let Some(group) = home(groups, &place[..len]) {
+        if let Some(group) = home(conf, &place[..len]) {
             return Some(Decided { group, len });
         }
         end = last_slash(&place[..len]);
@@ -40,13 +37,13 @@ fn last_slash(text: &[u8]) -> Option<usize>
 
 // The group into which the entry merges: not a prefix into a group without a target.
 #[tactic(auto, unfolding(crate::specs::Decisions::home))]
-fn home(groups: &[Group], entry: &[u8]) -> Option<usize>
-    ensures home { result ≡ home groups.now entry.now }
-    ensures within { IfSome result (λ k. k < length groups.now) }
+fn home(conf: &Conf, entry: &[u8]) -> Option<usize>
+    ensures home { result ≡ home conf.now.groups entry.now }
+    ensures within { IfSome result (λ k. k < length conf.now.groups) }
 {
-    match owner(groups, entry) {
+    match conf.owner(entry) {
         Some(k) => {
-            if counts(entry, &groups[k]) {
+            if counts(entry, &conf.groups()[k]) {
                 Some(k)
             } else {
                 None
@@ -73,31 +70,4 @@ pub fn has_target(group: &Group) -> bool
     ensures { result ≡ has_target group.now }
 {
     !group.targets().is_empty()
-}
-
-// The group that has the entry.
-fn owner(groups: &[Group], entry: &[u8]) -> Option<usize>
-    ensures owner { result ≡ owner entry.now groups.now }
-    ensures within { IfSome result (λ k. k < length groups.now) }
-{
-    groups.iter().position(|g| has_entry(g.merging(), entry))
-}
-
-fn has_entry(entries: &Texts, entry: &[u8]) -> bool
-    ensures { result ≡ list_any (λ e. bytes_eq e entry.now) entries.now }
-{
-    for i in 0..entries.len() {
-        if entries.get(i) == entry {
-            return true;
-        }
-    }
-    false
-}
-
-/// The group of this name.
-pub fn named(groups: &[Group], name: &[u8]) -> Option<usize>
-    ensures place { result ≡ position (λ g. bytes_eq g.name name.now) groups.now }
-    ensures within { IfSome result (λ k. k < length groups.now) }
-{
-    groups.iter().position(|g| g.name() == name)
 }

@@ -1,16 +1,18 @@
 //! A target's reading: the tests in their order, and the file that a place stands for.
-ghost use Rattle.std.specs.Prelude.{◌≡◌, ◌≢◌, ◌≤◌, ◌<◌, ◌+◌, ◌++◌, ◌∷◌, [], Some, Ok, Err, IfOk, IfErr, IfSome, OnOk, length, take, drop, map, codes, true};
-ghost use Rattle.acng_conf.specs.Places.{escaped_path};
+//!
+//! One buffer holds the place while it is looked up, and then becomes the file's path. Beside it a request takes no
+//! memory but that of its origins.
+ghost use Rattle.std.specs.Prelude.{◌≡◌, ◌≢◌, ◌≤◌, ◌<◌, ◌+◌, ◌++◌, ◌∷◌, [], Some, Ok, Err, IfOk, IfErr, IfSome, length, take, drop, map, codes, true};
 ghost use Rattle.acng_remap.specs.Forms.{is_tls};
 ghost use Rattle.acng_remap.specs.Hosts.{host_name, host_text};
-ghost use Rattle.acng_remap.specs.Readings.{Gives, GivesPath, HasOrigin, reading, form_of, target_file, host_file, of_host, place_file, entry_file, named_file, named_group, own_file, group_file, group_origins, asked, url_of};
+ghost use Rattle.acng_remap.specs.Readings.{Gives, GivesPath, HasOrigin, reading, form_of, target_file, host_file, of_host, place_file, entry_file, named_file, named_group, own_file, group_file, file, asked, url_of};
 
-use crate::decide::{Decided, decide, has_target, named};
+use crate::decide::{Decided, decide, has_target};
 use crate::form::{after_start, has, has_slash, is_absolute, is_tls, page_query, slash_at};
 use crate::host::{host_port, push_host};
 use crate::target::{Target, TargetFault};
 use acng_base::{CachePath, NoMemory, PathFault, Text, Texts};
-use acng_conf::{Conf, Group, escape, plain_path};
+use acng_conf::{Conf, Group, push_escaped, push_plain};
 use std::alloc::Global;
 
 /// What a method and a target ask for. The first rule that fits decides.
@@ -37,12 +39,12 @@ pub fn read_target(
     }
     match page_query(conf.report_page(), target) {
         Some(query) => Ok(Target::Page(Text::copy(alloc, query)?)),
-        None => read_form(alloc, conf.groups(), target),
+        None => read_form(alloc, conf, target),
     }
 }
 
-fn read_form(alloc: Global, groups: &[Group], target: &[u8]) -> Result<Target, TargetFault>
-    ensures { Gives (form_of groups.now target.now) result }
+fn read_form(alloc: Global, conf: &Conf, target: &[u8]) -> Result<Target, TargetFault>
+    ensures { Gives (form_of conf.now.groups target.now) result }
 {
     if !(is_absolute(target) || has_slash(target)) || has(b'#', target) {
         return Err(TargetFault::BadTarget);
@@ -50,112 +52,108 @@ fn read_form(alloc: Global, groups: &[Group], target: &[u8]) -> Result<Target, T
     if has(b'?', target) {
         return Err(TargetFault::Query);
     }
-    read_file(alloc, groups, target)
+    read_file(alloc, conf, target)
 }
 
 // A path prefix goes before a host.
 #[tactic(auto, unfolding(crate::specs::Readings::target_file))]
-fn read_file(alloc: Global, groups: &[Group], target: &[u8]) -> Result<Target, TargetFault>
-    ensures { Gives (target_file groups.now target.now) result }
+fn read_file(alloc: Global, conf: &Conf, target: &[u8]) -> Result<Target, TargetFault>
+    ensures { Gives (target_file conf.now.groups target.now) result }
 {
+    let mut room = Vec::new(alloc);
     if !has_slash(target) {
-        return read_host(alloc, groups, after_start(target));
+        return read_host(alloc, conf, room, after_start(target));
     }
-    let path = plain_path(alloc, target)?;
-    match decide(groups, path.as_slice()) {
-        Some(decided) => entry_file(alloc, groups, path.as_slice(), decided),
-        None => read_host(alloc, groups, after_start(target)),
+    push_plain(&mut room, target)?;
+    match decide(conf, room.as_slice()) {
+        Some(decided) => entry_file(alloc, conf, room, decided),
+        None => read_host(alloc, conf, room, after_start(target)),
     }
 }
 
+// What the room holds is of no use any more.
 #[tactic(auto, unfolding(crate::specs::Readings::host_file))]
-fn read_host(alloc: Global, groups: &[Group], text: &[u8]) -> Result<Target, TargetFault>
-    ensures { Gives (host_file groups.now text.now) result }
+fn read_host(
+    alloc: Global,
+    conf: &Conf,
+    room: Vec<u8>,
+    text: &[u8],
+) -> Result<Target, TargetFault>
+    ensures { Gives (host_file conf.now.groups text.now) result }
 {
     let len = slash_at(text);
     let host = &text[..len];
     match host_port(host) {
-        Some(port) => read_place(alloc, groups, host, port, &text[len..]),
+        Some(port) => read_place(alloc, conf, room, host, port, &text[len..]),
         None => Err(TargetFault::BadTarget),
     }
 }
 
 fn read_place(
     alloc: Global,
-    groups: &[Group],
+    conf: &Conf,
+    room: Vec<u8>,
     host: &[u8],
     port: u32,
     path: &[u8],
 ) -> Result<Target, TargetFault>
-    ensures { Gives (of_host groups.now (host_text (host_name host.now) port) port path.now) result }
+    ensures { Gives (of_host conf.now.groups (host_text (host_name host.now) port) port path.now) result }
 {
-    let mut place = Vec::new(alloc);
+    let mut place = room;
+    place.clear();
     push_host(&mut place, host, port)?;
     let len = place.len();
-    let path = plain_path(alloc, path)?;
-    place.extend_from_slice(path.as_slice())?;
-    place_file(alloc, groups, place.as_slice(), len, port)
+    push_plain(&mut place, path)?;
+    place_file(alloc, conf, place, len, port)
 }
 
 // The file of a place: its host, of this length, and its segments with a slash before each.
 #[tactic(auto, unfolding(crate::specs::Readings::place_file))]
 fn place_file(
     alloc: Global,
-    groups: &[Group],
-    place: &[u8],
+    conf: &Conf,
+    place: Vec<u8>,
     len: usize,
     port: u32,
 ) -> Result<Target, TargetFault>
-    requires { len ≤ length place.now }
-    ensures { Gives (place_file groups.now place.now (take len place.now) port) result }
+    requires { len ≤ length place.items }
+    ensures { Gives (place_file conf.now.groups place.items (take len place.items) port) result }
 {
-    match decide(groups, place) {
-        Some(decided) => entry_file(alloc, groups, place, decided),
-        None => named_file(alloc, groups, place, len, port),
+    match decide(conf, place.as_slice()) {
+        Some(decided) => entry_file(alloc, conf, place, decided),
+        None => named_file(alloc, conf, place, len, port),
     }
 }
 
 // What follows the entry is the rest.
 fn entry_file(
     alloc: Global,
-    groups: &[Group],
-    place: &[u8],
+    conf: &Conf,
+    place: Vec<u8>,
     decided: Decided,
 ) -> Result<Target, TargetFault>
-    requires { (decided.len ≤ length place.now) × (decided.group < length groups.now) }
-    ensures { Gives (entry_file groups.now place.now (take decided.len place.now) (Some decided.group)) result }
+    requires { (decided.len ≤ length place.items) × (decided.group < length conf.now.groups) }
+    ensures { Gives (entry_file conf.now.groups place.items (take decided.len place.items) (Some decided.group)) result }
 {
-    let rest = after(place, decided.len);
-    group_file(alloc, &groups[decided.group], rest, place)
-}
-
-// What stands behind the byte at a place.
-fn after(text: &[u8], at: usize) -> &[u8]
-    ensures { result.now ≡ drop (at + 1) text.now }
-{
-    if at < text.len() {
-        &text[at + 1..]
-    } else {
-        &text[text.len()..]
-    }
+    group_file(alloc, &conf.groups()[decided.group], place, decided.len)
 }
 
 // A group's name is a place too.
 fn named_file(
     alloc: Global,
-    groups: &[Group],
-    place: &[u8],
+    conf: &Conf,
+    place: Vec<u8>,
     len: usize,
     port: u32,
 ) -> Result<Target, TargetFault>
-    requires { len ≤ length place.now }
-    ensures { Gives (named_file groups.now place.now (take len place.now) (named_group groups.now (take len place.now) port)) result }
+    requires { len ≤ length place.items }
+    ensures { Gives (named_file conf.now.groups place.items (take len place.items) (named_group conf.now.groups (take len place.items) port)) result }
 {
-    match named_group(groups, &place[..len], port) {
+    match named_group(conf, &place[..len], port) {
         Some(k) => {
-            let group = &groups[k];
+            let group = &conf.groups()[k];
             if has_target(group) {
-                group_file(alloc, group, after(place, len), place)
+                group_file(alloc, group, place, len)
             } else {
                 Err(TargetFault::BadTarget)
             }
@@ -164,120 +162,141 @@ fn named_file(
     }
 }
 
-fn named_group(groups: &[Group], name: &[u8], port: u32) -> Option<usize>
-    ensures group { result ≡ named_group groups.now name.now port }
-    ensures within { IfSome result (λ k. k < length groups.now) }
+fn named_group(conf: &Conf, name: &[u8], port: u32) -> Option<usize>
+    ensures group { result ≡ named_group conf.now.groups name.now port }
+    ensures within { IfSome result (λ k. k < length conf.now.groups) }
 {
-    if port == 80 {
-        named(groups, name)
-    } else {
-        None
-    }
+    if port == 80 { conf.named(name) } else { None }
 }
 
 // A file of a place that belongs to no group.
 #[tactic(auto, unfolding(crate::specs::Readings::own_file))]
-fn own_file(alloc: Global, place: &[u8], len: usize) -> Result<Target, TargetFault>
-    requires { len ≤ length place.now }
-    ensures { Gives (own_file place.now (take len place.now)) result }
+fn own_file(alloc: Global, place: Vec<u8>, len: usize) -> Result<Target, TargetFault>
+    requires { len ≤ length place.items }
+    ensures { Gives (own_file place.items (take len place.items)) result }
 {
     if place.len() == len {
         return Err(TargetFault::BadPath(PathFault::Empty));
     }
-    let path = read_path(alloc, place)?;
-    let mut origins = Texts::new(alloc);
-    push_url(alloc, &mut origins, place)?;
+    let path = path_of(place)?;
+    let origins = own_origin(alloc, path.as_bytes())?;
     Ok(Target::File { path, origins })
 }
 
-// A file of a group.
-#[tactic(auto, unfolding(crate::specs::Readings::group_file))]
+// A file of a group: what stands behind a front of the place, and the byte after it, is the rest.
+#[tactic(auto, unfolding(crate::specs::Readings::group_file, crate::specs::Readings::group_origins))]
 fn group_file(
     alloc: Global,
     group: &Group,
-    rest: &[u8],
-    place: &[u8],
+    place: Vec<u8>,
+    len: usize,
 ) -> Result<Target, TargetFault>
-    ensures { Gives (group_file group.now rest.now place.now) result }
+    requires { len ≤ length place.items }
+    ensures { Gives (group_file group.now (drop (len + 1) place.items) place.items) result }
 {
-    if rest.is_empty() {
+    if place.len() - len <= 1 {
         return Err(TargetFault::BadPath(PathFault::Empty));
     }
-    let path = group_path(alloc, group, rest)?;
-    let origins = group_origins(alloc, group, rest, place)?;
+    if has_target(group) {
+        asked_file(alloc, group, place, len)
+    } else {
+        lone_file(alloc, group, place, len)
+    }
+}
+
+// Each target of the group is asked for the rest.
+fn asked_file(
+    alloc: Global,
+    group: &Group,
+    place: Vec<u8>,
+    len: usize,
+) -> Result<Target, TargetFault>
+    requires { len < length place.items }
+    ensures { Gives (file (group.now.name ++ 47 ∷ drop (len + 1) place.items) (map (asked (drop (len + 1) place.items)) group.now.targets)) result }
+{
+    let path = path_of(renamed(group.name(), place, len)?)?;
+    let rest = behind(path.as_bytes(), group.name());
+    let origins = asked_all(alloc, group.targets(), rest)?;
     Ok(Target::File { path, origins })
 }
 
-fn group_path(alloc: Global, group: &Group, rest: &[u8]) -> Result<CachePath, TargetFault>
-    ensures { GivesPath (group.now.name ++ 47 ∷ rest.now) result }
+// Without a target the place itself is asked.
+fn lone_file(
+    alloc: Global,
+    group: &Group,
+    place: Vec<u8>,
+    len: usize,
+) -> Result<Target, TargetFault>
+    requires { len < length place.items }
+    ensures { Gives (file (group.now.name ++ 47 ∷ drop (len + 1) place.items) (url_of place.items ∷ [])) result }
 {
-    let mut text = Vec::from_slice(alloc, group.name())?;
-    text.push(b'/')?;
-    text.extend_from_slice(rest)?;
-    read_path(alloc, text.as_slice())
+    let origins = own_origin(alloc, place.as_slice())?;
+    let path = path_of(renamed(group.name(), place, len)?)?;
+    Ok(Target::File { path, origins })
 }
 
-fn read_path(alloc: Global, text: &[u8]) -> Result<CachePath, TargetFault>
-    ensures { GivesPath text.now result }
+// The place with a name and a slash for its front and the byte after it, in the same memory.
+fn renamed(name: &[u8], place: Vec<u8>, len: usize) -> Result<Vec<u8>, NoMemory>
+    requires { len < length place.items }
+    ensures { IfOk result (λ path. path.items ≡ name.now ++ 47 ∷ drop (len + 1) place.items) }
 {
-    match CachePath::read(alloc, text) {
+    let mut path = place;
+    let rest = path.len() - (len + 1);
+    path.rotate_left(len + 1);
+    path.truncate(rest);
+    path.extend_from_slice(name)?;
+    path.push(b'/')?;
+    path.rotate_left(rest);
+    Ok(path)
+}
+
+fn path_of(bytes: Vec<u8>) -> Result<CachePath, TargetFault>
+    ensures { GivesPath bytes.items result }
+{
+    match CachePath::of(bytes) {
         Ok(path) => Ok(path),
-        Err(PathFault::NoMemory) => Err(TargetFault::NoMemory),
         Err(fault) => Err(TargetFault::BadPath(fault)),
     }
 }
 
-// Each target of the group; without one the place itself.
-#[tactic(auto, unfolding(crate::specs::Readings::group_origins))]
-fn group_origins(alloc: Global, group: &Group, rest: &[u8], place: &[u8]) -> Result<Texts, NoMemory>
-    ensures { IfOk result (λ origins. origins ≡ group_origins group.now rest.now place.now) }
+// What stands in the path behind the name and a slash.
+fn behind<'p>(path: &'p [u8], name: &[u8]) -> &'p [u8]
+    requires { length name.now < length path.now }
+    ensures { result.now ≡ drop (length name.now + 1) path.now }
+{
+    &path[name.len() + 1..]
+}
+
+fn asked_all(alloc: Global, targets: &Texts, rest: &[u8]) -> Result<Texts, NoMemory>
+    ensures { IfOk result (λ origins. origins ≡ map (asked rest.now) targets.now) }
 {
     let mut origins = Texts::new(alloc);
-    if has_target(group) {
-        push_targets(alloc, &mut origins, group.targets(), rest)?;
-    } else {
-        push_url(alloc, &mut origins, place)?;
+    for i in 0..targets.len() {
+        origins.push_text(asked(alloc, targets.get(i), rest)?)?;
     }
     Ok(origins)
 }
 
-fn push_targets(
-    alloc: Global,
-    origins: &mut Texts,
-    targets: &Texts,
-    rest: &[u8],
-) -> Result<(), NoMemory>
-    ensures { OnOk result (origins.new ≡ origins.old ++ map (asked rest.now) targets.now) }
+// A target of a group, a slash and the rest. The room is enough where no byte is escaped.
+fn asked(alloc: Global, target: &[u8], rest: &[u8]) -> Result<Text, NoMemory>
+    ensures { IfOk result (λ text. text ≡ asked rest.now target.now) }
 {
-    let part = asked_part(alloc, rest)?;
-    for i in 0..targets.len() {
-        push_joined(alloc, origins, targets.get(i), part.as_slice())?;
-    }
-    Ok(())
+    let room = target.len().saturating_add(rest.len()).saturating_add(1);
+    let mut bytes = Vec::with_capacity(alloc, room)?;
+    bytes.extend_from_slice(target)?;
+    bytes.push(b'/')?;
+    push_escaped(&mut bytes, rest)?;
+    Ok(Text::of(bytes))
 }
 
-// What is asked of a target: a slash and the rest.
-fn asked_part(alloc: Global, rest: &[u8]) -> Result<Vec<u8>, NoMemory>
-    ensures { IfOk result (λ part. part.items ≡ 47 ∷ escaped_path rest.now) }
+// The URL of a place, and no other.
+fn own_origin(alloc: Global, place: &[u8]) -> Result<Texts, NoMemory>
+    ensures { IfOk result (λ origins. origins ≡ url_of place.now ∷ []) }
 {
-    let escaped = escape(alloc, rest)?;
-    let mut part = Vec::from_slice(alloc, b"/")?;
-    part.extend_from_slice(escaped.as_bytes())?;
-    Ok(part)
-}
-
-// The URL of a place.
-fn push_url(alloc: Global, origins: &mut Texts, place: &[u8]) -> Result<(), NoMemory>
-    ensures { OnOk result (origins.new ≡ origins.old ++ url_of place.now ∷ []) }
-{
-    let escaped = escape(alloc, place)?;
-    push_joined(alloc, origins, b"http://", escaped.as_bytes())
-}
-
-fn push_joined(alloc: Global, texts: &mut Texts, front: &[u8], back: &[u8]) -> Result<(), NoMemory>
-    ensures { OnOk result (texts.new ≡ texts.old ++ (front.now ++ back.now) ∷ []) }
-{
-    let mut bytes = Vec::from_slice(alloc, front)?;
-    bytes.extend_from_slice(back)?;
-    texts.push(alloc, bytes.as_slice())
+    let mut bytes = Vec::with_capacity(alloc, place.len().saturating_add(7))?;
+    bytes.extend_from_slice(b"http://")?;
+    push_escaped(&mut bytes, place)?;
+    let mut origins = Texts::new(alloc);
+    origins.push_text(Text::of(bytes))?;
+    Ok(origins)
 }

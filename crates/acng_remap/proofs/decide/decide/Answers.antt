@@ -4,11 +4,11 @@ use Rattle.acng_remap.proofs.Deciding.{Reaches, begins, hit, next, done}
 use Rattle.acng_remap.proofs.decide.decide.Goals as goal
 
 pub loop-end-init : goal.loop-end-init
-loop-end-init c = begins c.args.groups.now c.args.place.now
+loop-end-init c = begins c.args.conf.now.groups c.args.place.now
 
 pub returns-in-Some-home : goal.returns-in-Some-home
 returns-in-Some-home c =
-    let groups = c.args.groups.now in
+    let groups = c.args.conf.now.groups in
     let place = c.args.place.now in
     let n = c.in-Some.len in
     let r : Reaches groups place (Some n) = subst (Reaches groups place) c.in-Some.is c.loop-end.invariant in
@@ -17,7 +17,7 @@ returns-in-Some-home c =
 
 pub loop-end-preserved : goal.loop-end-preserved
 loop-end-preserved c =
-    let groups = c.args.groups.now in
+    let groups = c.args.conf.now.groups in
     let place = c.args.place.now in
     let n = c.in-Some.len in
     let r : Reaches groups place (Some n) = subst (Reaches groups place) c.in-Some.is c.loop-end.invariant in
@@ -25,4 +25,4 @@ loop-end-preserved c =
     next groups place n r h c.last_slash-end.result c.last_slash-end.ensures
 
 pub returns : goal.returns
-returns c = done c.args.groups.now c.args.place.now (subst (Reaches c.args.groups.now c.args.place.now) c.in_default.is c.loop-end.invariant)
+returns c = done c.args.conf.now.groups c.args.place.now (subst (Reaches c.args.conf.now.groups c.args.place.now) c.in_default.is c.loop-end.invariant)

@@ -4,5 +4,5 @@ use Rattle.acng_remap.proofs.law.one_path_one_origins.Goals as goal
 
 pub returns : goal.returns
 returns c =
-    λ names m t n u path origins others plain first second.
-    by_path c.args.conf.now m t path origins names first plain ∙ sym (by_path c.args.conf.now n u path others names second plain)
+    λ m t n u path origins others plain first second.
+    by_path c.args.conf.now m t path origins c.groups-groups.ensures.names first plain ∙ sym (by_path c.args.conf.now n u path others c.groups-groups.ensures.names second plain)
