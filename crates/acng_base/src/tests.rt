@@ -39,6 +39,10 @@ fn a_path_names_one_file(rt: HostRuntime) -> Result<(), Fail> {
             ),
             Err(fault) => assert_eq!(rt; Some(fault), refusal),
         }
+        match CachePath::of(Vec::from_slice(rt.alloc(), text)?) {
+            Ok(path) => assert!(rt; path.as_bytes() == text),
+            Err(fault) => assert_eq!(rt; Some(fault), refusal),
+        }
     }
     Ok(())
 }
@@ -172,6 +176,8 @@ fn texts_keep_their_order(rt: HostRuntime) -> Result<(), Fail> {
     assert!(rt; texts.get(0) == b"b".as_slice() && texts.get(1).is_empty());
     let text = Text::copy(rt.alloc(), b"abc").map_err(|_| "memory")?;
     assert!(rt; text.as_bytes() == b"abc".as_slice());
+    texts.push_text(text).map_err(|_| "memory")?;
+    assert!(rt; texts.get(2) == b"abc".as_slice());
     Ok(())
 }
 

@@ -1,5 +1,5 @@
 mod Cutting
-mod Digits
+pub mod Digits
 mod Escapes
 mod Globs
 mod Lines

@@ -33,7 +33,8 @@ pub fn is_key(text: &[u8]) -> bool
     !text.is_empty() && text[0].is_ascii_alphabetic() && are_word_bytes(text)
 }
 
-fn are_word_bytes(text: &[u8]) -> bool
+/// Letters, digits, `-`, `_` and `.` alone.
+pub fn are_word_bytes(text: &[u8]) -> bool
     ensures { result ≡ list_all is_word_byte text.now }
 {
     text.iter().all(|b| is_word_byte(*b))

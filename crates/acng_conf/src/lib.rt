@@ -28,8 +28,11 @@ mod warn;
 mod work;
 
 pub use conf::Conf;
+pub use cut::begins_with;
 pub use fault::{ConfCause, ConfFault, ListFile, WarnCause, Warning};
 pub use group::Group;
+pub use key::are_word_bytes;
+pub use number::read_number;
 pub use place::{ESCAPED, push_escaped, push_plain};
 pub use print::{print_conf, print_fault};
 pub use read::read_conf;

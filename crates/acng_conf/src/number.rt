@@ -1,4 +1,4 @@
-//! Numbers of a configuration: 1 to 9 digits, leading zeros among them, within bounds.
+//! Numbers of configurations and targets: 1 to 9 digits, leading zeros among them, within bounds.
 ghost use Rattle.std.specs.Prelude.{◌≡◌, ◌≤◌, ◌&&◌, true, IfSome, length, nat_le};
 ghost use Rattle.std.specs.List.{list_all};
 ghost use Rattle.std.specs.Char.{is_ascii_digit};
@@ -6,7 +6,7 @@ ghost use Rattle.std.specs.Str.Parse.{digits_value};
 ghost use Rattle.acng_conf.specs.Numbers.{is_number, number_of};
 
 /// The number from `low` to `high` that the text writes.
-pub fn number(text: &[u8], low: u32, high: u32) -> Option<u32>
+pub fn read_number(text: &[u8], low: u32, high: u32) -> Option<u32>
     ensures number { result ≡ number_of low high text.now }
     ensures within { IfSome result (λ n. n ≤ high) }
 {

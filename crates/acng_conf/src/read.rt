@@ -209,13 +209,7 @@ impl Conf {
         }
     }
 
-    fn read_plain(
-        self,
-        alloc: Global,
-        line: u32,
-        value: &[u8],
-        key: Key,
-    ) -> Result<Conf, ConfCause>
+    fn read_plain(self, alloc: Global, line: u32, value: &[u8], key: Key) -> Result<Conf, ConfCause>
         ensures { Gives (plain_value line self value.now key) result }
     {
         let Conf { values, owners } = self;

@@ -7,7 +7,7 @@ ghost use Rattle.acng_conf.specs.Readings.{Gives, with_number, set_page, set_bin
 use crate::cut::words;
 use crate::fault::{ConfCause, WarnCause};
 use crate::key::{Key, is_page};
-use crate::number::number;
+use crate::number::read_number;
 use crate::pattern::{PatternText, is_pattern};
 use crate::values::Values;
 use acng_base::Text;
@@ -46,7 +46,7 @@ impl Values {
         ensures step { Gives (with_number (number_of 1 65535 value.now) (λ x. record self { port = x })) result }
         ensures groups { IfOk result (λ values. values.groups ≡ self.groups) }
     {
-        let Some(n) = number(value, 1, 65_535) else {
+        let Some(n) = read_number(value, 1, 65_535) else {
             return Err(ConfCause::BadNumber);
         };
         self.port = n as u16;
@@ -57,7 +57,7 @@ impl Values {
         ensures step { Gives (with_number (number_of 0 36500 value.now) (λ x. record self { threshold_days = x })) result }
         ensures groups { IfOk result (λ values. values.groups ≡ self.groups) }
     {
-        let Some(n) = number(value, 0, 36_500) else {
+        let Some(n) = read_number(value, 0, 36_500) else {
             return Err(ConfCause::BadNumber);
         };
         self.threshold_days = n;
@@ -68,7 +68,7 @@ impl Values {
         ensures step { Gives (with_number (number_of 0 1000000 value.now) (λ x. record self { abort_limit = x })) result }
         ensures groups { IfOk result (λ values. values.groups ≡ self.groups) }
     {
-        let Some(n) = number(value, 0, 1_000_000) else {
+        let Some(n) = read_number(value, 0, 1_000_000) else {
             return Err(ConfCause::BadNumber);
         };
         self.abort_limit = n;
@@ -79,7 +79,7 @@ impl Values {
         ensures step { Gives (with_number (number_of 0 1 value.now) (λ x. record self { offline = x == 1 })) result }
         ensures groups { IfOk result (λ values. values.groups ≡ self.groups) }
     {
-        let Some(n) = number(value, 0, 1) else {
+        let Some(n) = read_number(value, 0, 1) else {
             return Err(ConfCause::BadNumber);
         };
         self.offline = n == 1;
@@ -90,7 +90,7 @@ impl Values {
         ensures step { Gives (with_number (number_of 0 31536000 value.now) (λ x. record self { fresh_age = x })) result }
         ensures groups { IfOk result (λ values. values.groups ≡ self.groups) }
     {
-        let Some(n) = number(value, 0, 31_536_000) else {
+        let Some(n) = read_number(value, 0, 31_536_000) else {
             return Err(ConfCause::BadNumber);
         };
         self.fresh_age = u64::from(n);
@@ -101,7 +101,7 @@ impl Values {
         ensures step { Gives (with_number (number_of 0 15 value.now) (λ x. record self { redir_max = x })) result }
         ensures groups { IfOk result (λ values. values.groups ≡ self.groups) }
     {
-        let Some(n) = number(value, 0, 15) else {
+        let Some(n) = read_number(value, 0, 15) else {
             return Err(ConfCause::BadNumber);
         };
         self.redir_max = n;
@@ -112,7 +112,7 @@ impl Values {
         ensures step { Gives (with_number (number_of 0 1 value.now) (λ x. record self { maint_over_http = x == 1 })) result }
         ensures groups { IfOk result (λ values. values.groups ≡ self.groups) }
     {
-        let Some(n) = number(value, 0, 1) else {
+        let Some(n) = read_number(value, 0, 1) else {
             return Err(ConfCause::BadNumber);
         };
         self.maint_over_http = n == 1;

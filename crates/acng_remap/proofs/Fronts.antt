@@ -13,12 +13,12 @@ use Rattle.std.proofs.lemmas.Iterator.Adapters.{position_from-zero}
 use Rattle.std.proofs.lemmas.Slice.Eq.{bytes_eq-Decides}
 use Rattle.std.proofs.lemmas.Grind.{common_steps}
 use Rattle.acng_base.specs.Paths.{is_slash}
+use Rattle.acng_conf.proofs.Digits.{numerals}
 use Rattle.acng_conf.specs.Keys.{is_word_byte}
 use Rattle.acng_conf.specs.Numbers.{number_of, is_number}
 use Rattle.acng_conf.specs.Settings.{Mirrors}
 use Rattle.acng_remap.specs.Forms.{has, before_slash, slash_at}
 use Rattle.acng_remap.specs.Hosts.{name_len, is_name, port_of, port_after, host_port, host_name, host_text}
-use Rattle.acng_remap.proofs.Digits.{numerals}
 
 parts : (a b : Bool) → (a || b) ≡ false → (a ≡ false) × (b ≡ false)
 parts true b h = cc

@@ -1,5 +1,4 @@
 pub mod Deciding
-pub mod Digits
 pub mod Fits
 pub mod Following
 pub mod Fronts

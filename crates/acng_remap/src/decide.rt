@@ -3,10 +3,9 @@
 //! The fronts of the place that end where a segment ends are tried from the longest down, so the first that is an entry
 //! is the longest that fits. Each try is one look-up.
 ghost use Rattle.std.specs.Prelude.{◌≡◌, ◌≤◌, ◌<◌, Some, None, MatchOption, IfSome, length, take};
-ghost use Rattle.acng_conf.specs.Cuts.{begins_with};
 ghost use Rattle.acng_remap.specs.Decisions.{HasNoSlash, IsLastSlash, deciding, home, has_target, counts};
 
-use acng_conf::{Conf, Group};
+use acng_conf::{Conf, Group, begins_with};
 
 /// The group that has the deciding entry, and the entry's length.
 #[derive(Clone, Copy, Debug)]
@@ -56,13 +55,7 @@ fn home(conf: &Conf, entry: &[u8]) -> Option<usize>
 fn counts(entry: &[u8], group: &Group) -> bool
     ensures { result ≡ counts entry.now group.now }
 {
-    !(begins_with_slash(entry) && !has_target(group))
-}
-
-fn begins_with_slash(entry: &[u8]) -> bool
-    ensures { result ≡ begins_with 47 entry.now }
-{
-    !entry.is_empty() && entry[0] == b'/'
+    !(begins_with(b'/', entry) && !has_target(group))
 }
 
 /// Whether the group has URLs to ask.

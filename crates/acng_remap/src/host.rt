@@ -1,14 +1,10 @@
 //! Hosts of targets: a name and perhaps a port.
-ghost use Rattle.std.specs.Prelude.{◌≡◌, ◌≤◌, ◌<◌, ◌++◌, ◌∷◌, true, OnOk, IfSome, length, position, decimal};
-ghost use Rattle.std.specs.List.{list_all};
-ghost use Rattle.std.specs.Char.{is_ascii_digit};
+ghost use Rattle.std.specs.Prelude.{◌≡◌, ◌≤◌, ◌<◌, ◌++◌, ◌∷◌, OnOk, IfSome, length, position, decimal};
 ghost use Rattle.std.specs.Str.{str_to_ascii_lowercase};
-ghost use Rattle.std.specs.Str.Parse.{digits_value};
-ghost use Rattle.acng_conf.specs.Keys.{is_word_byte};
-ghost use Rattle.acng_conf.specs.Numbers.{is_number};
 ghost use Rattle.acng_remap.specs.Hosts.{is_colon, name_len, is_name, port_of, port_after, host_port, host_name, host_text};
 
 use acng_base::NoMemory;
+use acng_conf::{are_word_bytes, read_number};
 use itoa::Buffer;
 
 /// The port of a host's text, 80 where none is written. None where the text is no host.
@@ -59,51 +55,14 @@ fn is_name(name: &[u8]) -> bool
     1 <= name.len() && name.len() <= 253 && are_word_bytes(name)
 }
 
-fn are_word_bytes(name: &[u8]) -> bool
-    ensures { result ≡ list_all is_word_byte name.now }
-{
-    name.iter().all(|b| is_word_byte(*b))
-}
-
-fn is_word_byte(b: u8) -> bool
-    ensures { result ≡ is_word_byte b }
-{
-    b.is_ascii_alphanumeric() || b == b'-' || b == b'_' || b == b'.'
-}
-
 // The number that 1 to 5 digits write, from 1 to 65,535.
 fn port_of(digits: &[u8]) -> Option<u32>
     ensures { result ≡ port_of digits.now }
 {
-    if digits.len() > 5 || !is_number(digits) {
+    if digits.len() > 5 {
         return None;
     }
-    let n = value(digits);
-    if 1 <= n && n <= 65_535 { Some(n) } else { None }
-}
-
-fn is_number(text: &[u8]) -> bool
-    ensures { result ≡ is_number text.now }
-{
-    1 <= text.len() && text.len() <= 9 && are_digits(text)
-}
-
-fn are_digits(text: &[u8]) -> bool
-    ensures { result ≡ list_all is_ascii_digit text.now }
-{
-    text.iter().all(|b| b.is_ascii_digit())
-}
-
-// The value of at most 9 digits.
-fn value(digits: &[u8]) -> u32
-    requires { is_number digits.now ≡ true }
-    ensures { result ≡ digits_value 10 digits.now }
-{
-    let mut value = 0;
-    for digit in digits {
-        value = value * 10 + u32::from(*digit - b'0');
-    }
-    value
+    read_number(digits, 1, 65_535)
 }
 
 /// Writes a host's canonical text, from the text as it was asked and its port.

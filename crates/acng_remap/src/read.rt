@@ -55,12 +55,12 @@ fn read_form(alloc: Global, conf: &Conf, target: &[u8]) -> Result<Target, Target
     read_file(alloc, conf, target)
 }
 
-// A path prefix goes before a host.
+// A path prefix goes before a host. The room is enough for either place: no more than a slash comes to the target.
 #[tactic(auto, unfolding(crate::specs::Readings::target_file))]
 fn read_file(alloc: Global, conf: &Conf, target: &[u8]) -> Result<Target, TargetFault>
     ensures { Gives (target_file conf.now.groups target.now) result }
 {
-    let mut room = Vec::new(alloc);
+    let mut room = Vec::with_capacity(alloc, target.len().saturating_add(1))?;
     if !has_slash(target) {
         return read_host(alloc, conf, room, after_start(target));
     }
@@ -73,12 +73,7 @@ fn read_file(alloc: Global, conf: &Conf, target: &[u8]) -> Result<Target, Target
 
 // What the room holds is of no use any more.
 #[tactic(auto, unfolding(crate::specs::Readings::host_file))]
-fn read_host(
-    alloc: Global,
-    conf: &Conf,
-    room: Vec<u8>,
-    text: &[u8],
-) -> Result<Target, TargetFault>
+fn read_host(alloc: Global, conf: &Conf, room: Vec<u8>, text: &[u8]) -> Result<Target, TargetFault>
     ensures { Gives (host_file conf.now.groups text.now) result }
 {
     let len = slash_at(text);
