@@ -22,7 +22,8 @@ const NO_MEMORY: u8 = 6;
 /// `check-conf` reads the configuration and the list files beside it. Where it is read, it prints
 /// `ok groups G warnings W` and a line for each warning, with status 0; where it is refused, `line L: CAUSE`, with status
 /// 3. Words that aren't read print `words: NAME`, and other commands `words: Other`, with status 2; then the
-/// configuration isn't read. Status 4: the configuration or the output failed. Status 6: memory was refused.
+/// configuration isn't read. Status 4: the configuration failed and nothing is printed, or the output failed. Status 6:
+/// memory was refused, and nothing is printed.
 pub fn run_maint<I: Source, W: Sink>(
     alloc: Global,
     words: &[Text],
@@ -32,6 +33,10 @@ pub fn run_maint<I: Source, W: Sink>(
 ) -> u8
     ensures ran { MaintRan (record { left = I.left conf.old; read_faults = I.faults conf.old; written = W.written out.old; write_faults = W.faults out.old }) (record { left = I.left conf.new; read_faults = I.faults conf.new; written = W.written out.new; write_faults = W.faults out.new }) words.now lists.now result }
     ensures unread { of_words_text (words_of words.now) ≢ None → conf.new ≡ conf.old }
+
+    // Nothing is printed where memory was refused, or where the configuration failed.
+    ensures quiet { result ≡ 6 → out.new ≡ out.old }
+    ensures unsaid { result ≡ 4 → (out.new ≡ out.old) ⊎ Rose (W.faults out.old) (W.faults out.new) }
 {
     match said(alloc, words, conf, lists) {
         Ok(said) => print(said, out),
