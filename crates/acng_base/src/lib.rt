@@ -26,7 +26,7 @@ pub use link::{Link, send_all, send_counted};
 pub use memory::MemoryLink;
 pub use path::{CachePath, PathFault};
 pub use stdio::{StdLink, StdSink, StdSource};
-pub use stream::{MemorySink, MemorySource, Sink, Source};
+pub use stream::{MemorySink, MemorySource, Sink, Source, write_all};
 pub use tag::Tag;
 pub use text::{Text, Texts};
 

@@ -1,9 +1,10 @@
-//! Streams of one direction: a source of bytes and a sink for them, with their forms over memory.
+//! Streams of one direction: a source of bytes and a sink for them, with their forms over memory, and the writing of a
+//! whole piece to a sink.
 ghost use Rattle.std.specs.Prelude.{◌≡◌, ◌<◌, ◌≤◌, List, ℕ, [], Some, length, IfOk};
 ghost use Rattle.std.specs.declared.option.Option.{Option};
 ghost use Rattle.std.specs.Io.{ReadsAtMost, WritesAtMost};
 ghost use Rattle.std.specs.Io.KnownBytes.{ReadConsumes, WriteAppends};
-ghost use Rattle.acng_base.specs.Causes.{HasCause};
+ghost use Rattle.acng_base.specs.Causes.{HasCause, SendsAll};
 ghost use Rattle.acng_base.specs.Pipes.{ReadsAs, WritesAs};
 
 use crate::fault::{Failed, NoMemory};
@@ -40,6 +41,21 @@ pub trait Sink {
         ensures some { 0 < length piece.now → IfOk result (λ n. 0 < n) }
         ensures bytes { WriteAppends (written self.old) (written self.new) result piece.now }
         ensures cause { HasCause (faults self.old) (faults self.new) result };
+}
+
+/// Writes the whole piece, or at a fault a front of it.
+pub fn write_all<W: Sink>(sink: &mut W, piece: &[u8]) -> Result<(), Failed>
+    ensures bytes { SendsAll (W.written sink.old) (W.written sink.new) piece.now result }
+    ensures cause { HasCause (W.faults sink.old) (W.faults sink.new) result }
+{
+    let mut sent = 0;
+    while sent < piece.len() {
+        match sink.write(&piece[sent..]) {
+            Ok(count) => sent += count,
+            Err(fault) => return Err(fault),
+        }
+    }
+    Ok(())
 }
 
 /// A source over memory, which reads as a `MemoryLink` reads.

@@ -5,6 +5,7 @@ pub mod Heads
 pub mod Passing
 pub mod Pieces
 pub mod Ran
+mod Rows
 pub mod Sendings
 pub mod Steps
 pub mod Taken

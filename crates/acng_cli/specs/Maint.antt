@@ -61,7 +61,8 @@ pub record Streams : Type 0 where
   pub written : Option (List ℕ)
   pub write_faults : ℕ
 
--- This text is printed, with its status. Where a stream failed, or memory was refused, a front of it is.
+-- This text is printed, with its status. Where the output failed, a front of it is, with status 4.
+-- Where nothing is said, with 4 or 6, the front is empty: `quiet` and `unsaid` of `run_maint` say so of the output itself.
 pub record Says (written now : Option (List ℕ)) (said : Said) (status : ℕ) : Type 0 where
   pub same : status ≢ 4 → status ≢ 6 → status ≡ said.status
   pub text : status ≢ 4 → status ≢ 6 → Appends written now said.text

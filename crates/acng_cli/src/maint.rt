@@ -1,14 +1,14 @@
 //! The commands of maintenance. So far there is one: `check-conf` reads a configuration, and says at which line it is
 //! refused, or how many groups it has and what is warned of.
 ghost use Rattle.std.specs.Prelude.{◌≡◌, ◌≢◌, ◌⊎◌, Some, None, Err, IfSome, IfOk};
-ghost use Rattle.acng_base.specs.Causes.{HasCause, Rose, SendsAll};
+ghost use Rattle.acng_base.specs.Causes.{Rose};
 ghost use Rattle.acng_conf.specs.Readings.{reading};
 ghost use Rattle.acng_cli.specs.Words.{words_of};
 ghost use Rattle.acng_cli.specs.Maint.{MaintRan, Says, IsSaid, of_words as of_words_text, of_conf};
 ghost use Rattle.acng_cli.specs.declared.said.Said.{Said as SaidText};
 
 use crate::said::{Said, Unsaid, check_conf, of_words};
-use acng_base::{Failed, NoMemory, Sink, Source, Text};
+use acng_base::{Failed, NoMemory, Sink, Source, Text, write_all};
 use acng_conf::ListFile;
 use std::alloc::Global;
 
@@ -19,10 +19,11 @@ const NO_MEMORY: u8 = 6;
 
 /// Runs the command that the words name, the program's name left out, and gives the program's status.
 ///
-/// `check-conf` reads the configuration and the list files beside it. Where it is read, it prints `ok groups G warnings W` and
-/// a line for each warning, with status 0; where it is refused, `line L: CAUSE`, with status 3. Words that aren't read
-/// print `words: NAME`, and other commands `words: Other`, with status 2; then the configuration isn't read. Status 4: the configuration or the output
-/// failed. Status 6: memory was refused.
+/// `check-conf` reads the configuration and the list files beside it. Where it is read, it prints
+/// `ok groups G warnings W` and a line for each warning, with status 0; where it is refused, `line L: CAUSE`, with status
+/// 3. Words that aren't read print `words: NAME`, and other commands `words: Other`, with status 2; then the
+/// configuration isn't read. Status 4: the configuration failed and nothing is printed, or the output failed. Status 6:
+/// memory was refused, and nothing is printed.
 pub fn run_maint<I: Source, W: Sink>(
     alloc: Global,
     words: &[Text],
@@ -32,6 +33,10 @@ pub fn run_maint<I: Source, W: Sink>(
 ) -> u8
     ensures ran { MaintRan (record { left = I.left conf.old; read_faults = I.faults conf.old; written = W.written out.old; write_faults = W.faults out.old }) (record { left = I.left conf.new; read_faults = I.faults conf.new; written = W.written out.new; write_faults = W.faults out.new }) words.now lists.now result }
     ensures unread { of_words_text (words_of words.now) ≢ None → conf.new ≡ conf.old }
+
+    // Nothing is printed where memory was refused, or where the configuration failed.
+    ensures quiet { result ≡ 6 → out.new ≡ out.old }
+    ensures unsaid { result ≡ 4 → (out.new ≡ out.old) ⊎ Rose (W.faults out.old) (W.faults out.new) }
 {
     match said(alloc, words, conf, lists) {
         Ok(said) => print(said, out),
@@ -70,19 +75,4 @@ fn print<W: Sink>(said: Said, out: &mut W) -> u8
         Ok(()) => said.status,
         Err(Failed) => FAILED,
     }
-}
-
-// Writes the whole piece, or at a fault a front of it.
-fn write_all<W: Sink>(out: &mut W, piece: &[u8]) -> Result<(), Failed>
-    ensures bytes { SendsAll (W.written out.old) (W.written out.new) piece.now result }
-    ensures cause { HasCause (W.faults out.old) (W.faults out.new) result }
-{
-    let mut sent = 0;
-    while sent < piece.len() {
-        match out.write(&piece[sent..]) {
-            Ok(count) => sent += count,
-            Err(fault) => return Err(fault),
-        }
-    }
-    Ok(())
 }
