@@ -2,11 +2,11 @@
 ghost use Rattle.std.specs.Prelude.{◌≡◌, ◌++◌, ◌∷◌, ◌<◌, ◌≤◌, ℕ, List, Ok, IfOk, OnOk, IfSome, length, Some, None, Err, Option, cond, ◌==◌, ◌+◌, true};
 ghost use Rattle.acng_conf.specs.Keys.{is_group_name};
 ghost use Rattle.acng_conf.specs.Remaps.{Work as WorkView};
-ghost use Rattle.acng_conf.specs.Readings.{Gives, group_at, called, naming, with_place, with_targets, change, owner, merge, merge_all, add_words, add_work, add_remap, after_merging, with_warnings, is_too_many};
+ghost use Rattle.acng_conf.specs.Readings.{Gives, group_at, called, naming, with_place, with_targets, change, owner, merge, merge_all, add_words, add_work, add_remap, after_merging, is_too_many};
 
 use crate::conf::Conf;
 use crate::cut::words;
-use crate::fault::{ConfCause, ListFile, WarnCause};
+use crate::fault::{ConfCause, ListFile};
 use crate::group::Group;
 use crate::key::is_group_name;
 use crate::values::Values;
@@ -206,15 +206,6 @@ impl Values {
         ensures { OnOk result (self.new ≡ change (with_targets targets.now) k self.old) }
     {
         self.groups[k].add_targets(alloc, targets)
-    }
-
-    fn warn_all(&mut self, line: u32, causes: &[WarnCause]) -> Result<(), NoMemory>
-        ensures { OnOk result (self.new ≡ with_warnings line causes.now self.old) }
-    {
-        for cause in causes {
-            self.warn(line, *cause)?;
-        }
-        Ok(())
     }
 
     fn is_too_many(&self) -> bool

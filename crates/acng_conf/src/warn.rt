@@ -18,6 +18,15 @@ impl Values {
         Ok(())
     }
 
+    pub(crate) fn warn_all(&mut self, line: u32, causes: &[WarnCause]) -> Result<(), NoMemory>
+        ensures { OnOk result (self.new ≡ with_warnings line causes.now self.old) }
+    {
+        for cause in causes {
+            self.warn(line, *cause)?;
+        }
+        Ok(())
+    }
+
     /// Each group with a prefix and no target is warned of at its last line.
     pub(crate) fn warn_of_groups(&mut self) -> Result<(), NoMemory>
         ensures { OnOk result (self.new ≡ finished self.old) }
