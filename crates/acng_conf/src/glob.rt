@@ -1,23 +1,76 @@
 //! Which names fit a pattern, in which `*` stands for any bytes.
-ghost use Rattle.std.specs.Prelude.{◌≡◌};
-ghost use Rattle.acng_conf.specs.Globs.{fits};
+ghost use Rattle.std.specs.Prelude.{◌≡◌, ◌≤◌, ◌<◌, ◌+◌, Bool, true, false, [], length, drop};
+ghost use Rattle.acng_conf.specs.Cuts.{begins_with};
+ghost use Rattle.acng_conf.specs.Globs.{fits, some_end};
 
-/// Whether the name fits. Each `*` tries the ends of the name in turn, so a pattern of many stars takes long on a long
-/// name; patterns are the administrator's own.
+/// Whether the name fits.
 pub fn fits(pattern: &[u8], name: &[u8]) -> bool
     ensures { result ≡ fits pattern.now name.now }
 {
-    if pattern.is_empty() {
-        return name.is_empty();
+    let equal = equal_bytes(pattern, name);
+    let behind = &pattern[equal..];
+    if equal == name.len() {
+        return is_stars(behind);
     }
-    let rest = &pattern[1..];
-    if pattern[0] == b'*' {
-        for i in 0..name.len() {
-            if fits(rest, &name[i..]) {
-                return true;
-            }
+    begins_with_star(behind) && fits_some_end(&behind[1..], &name[equal..])
+}
+
+/// Whether some end of the name fits. Only the star met last is tried again, since it can take what an earlier one
+/// could: the time is at most about the pattern's length times the name's.
+fn fits_some_end(pattern: &[u8], name: &[u8]) -> bool
+    ensures { result ≡ some_end (fits pattern.now) name.now }
+{
+    let mut rest = pattern;
+    let mut left = name;
+    loop {
+        let equal = equal_bytes(rest, left);
+        let behind = &rest[equal..];
+        if equal == left.len() {
+            return is_stars(behind);
         }
-        return fits(rest, &name[name.len()..]);
+        if begins_with_star(behind) {
+            rest = &behind[1..];
+            left = &left[equal..];
+        } else {
+            left = &left[1..];
+        }
     }
-    !name.is_empty() && name[0] == pattern[0] && fits(rest, &name[1..])
+}
+
+/// How many bytes before the pattern's first star are the bytes that the name begins with.
+fn equal_bytes(pattern: &[u8], name: &[u8]) -> usize
+    ensures in_pattern { result ≤ length pattern.now }
+    ensures in_name { result ≤ length name.now }
+    ensures same { fits pattern.now name.now ≡ fits (drop result pattern.now) (drop result name.now) }
+
+    // If a later end of the name fits, the rest of the pattern fits an end behind these bytes.
+    ensures later { some_end (fits pattern.now) (drop 1 name.now) ≡ true → some_end (fits (drop result pattern.now)) (drop (result + 1) name.now) ≡ true }
+
+    // Short of the name's end and of a star, nothing fits.
+    ensures stop { result < length name.now → begins_with 42 (drop result pattern.now) ≡ false → fits pattern.now name.now ≡ false }
+{
+    for i in 0..pattern.len() {
+        if i == name.len() || pattern[i] == b'*' || pattern[i] != name[i] {
+            return i;
+        }
+    }
+    pattern.len()
+}
+
+fn begins_with_star(pattern: &[u8]) -> bool
+    ensures { result ≡ begins_with 42 pattern.now }
+{
+    !pattern.is_empty() && pattern[0] == b'*'
+}
+
+/// Whether the empty name fits.
+fn is_stars(pattern: &[u8]) -> bool
+    ensures { result ≡ fits pattern.now [] }
+{
+    for i in 0..pattern.len() {
+        if pattern[i] != b'*' {
+            return false;
+        }
+    }
+    true
 }

@@ -270,6 +270,29 @@ fn groups_hold_canonical_entries(rt: HostRuntime) -> Result<(), Fail> {
     Ok(())
 }
 
+// Trying each star again at each place wouldn't end.
+#[test]
+fn a_pattern_of_many_stars_is_matched_in_time(rt: HostRuntime) -> Result<(), Fail> {
+    let alloc = rt.alloc();
+    let name = b"aaaaaaaaaaaaaaaaaaaaaaaaaaaaaaaaaaaaaaaaaaaaaaaaaaaaaaaaaaaaaaaaaaaaaaaaaaaaaaaa";
+    let mut lists = Vec::new(alloc);
+    lists.push(list(alloc, name, b"/x").map_err(|_| "memory")?)?;
+    for (text, printed) in [
+        (
+            "Remap-x: file:*a*a*a*a*a*a*a*a*a*a*a*a*a*a*a*a*a*a*a*a*b",
+            "ok groups 1 warnings 1\nwarning line 1: NoList",
+        ),
+        (
+            "Remap-x: file:*a*a*a*a*a*a*a*a*a*a*a*a*a*a*a*a*a*a*a*aa",
+            "ok groups 1 warnings 0",
+        ),
+    ] {
+        let as_printed = prints(alloc, text.as_bytes(), lists.as_slice(), printed.as_bytes());
+        assert!(rt; as_printed.map_err(|_| "memory")?, "{text}");
+    }
+    Ok(())
+}
+
 // A line `Port: 1` of so many bytes, and its end.
 fn long_line(alloc: Global, length: usize) -> Result<Vec<u8>, NoMemory> {
     let mut text = Vec::from_slice(alloc, b"Port:")?;
