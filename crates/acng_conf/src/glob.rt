@@ -3,6 +3,8 @@ ghost use Rattle.std.specs.Prelude.{◌≡◌, ◌≤◌, ◌<◌, ◌+◌, Bool
 ghost use Rattle.acng_conf.specs.Cuts.{begins_with};
 ghost use Rattle.acng_conf.specs.Globs.{fits, some_end};
 
+use crate::cut::begins_with;
+
 /// Whether the name fits.
 pub fn fits(pattern: &[u8], name: &[u8]) -> bool
     ensures { result ≡ fits pattern.now name.now }
@@ -12,11 +14,11 @@ pub fn fits(pattern: &[u8], name: &[u8]) -> bool
     if equal == name.len() {
         return is_stars(behind);
     }
-    begins_with_star(behind) && fits_some_end(&behind[1..], &name[equal..])
+    begins_with(b'*', behind) && fits_some_end(&behind[1..], &name[equal..])
 }
 
-/// Whether some end of the name fits. Only the star met last is tried again, since it can take what an earlier one
-/// could: the time is at most about the pattern's length times the name's.
+// Whether some end of the name fits. Only the star met last is tried again, since it can take what an earlier one
+// could: the time is at most about the pattern's length times the name's.
 fn fits_some_end(pattern: &[u8], name: &[u8]) -> bool
     ensures { result ≡ some_end (fits pattern.now) name.now }
 {
@@ -28,7 +30,7 @@ fn fits_some_end(pattern: &[u8], name: &[u8]) -> bool
         if equal == left.len() {
             return is_stars(behind);
         }
-        if begins_with_star(behind) {
+        if begins_with(b'*', behind) {
             rest = &behind[1..];
             left = &left[equal..];
         } else {
@@ -37,7 +39,7 @@ fn fits_some_end(pattern: &[u8], name: &[u8]) -> bool
     }
 }
 
-/// How many bytes before the pattern's first star are the bytes that the name begins with.
+// How many bytes before the pattern's first star are the bytes that the name begins with.
 fn equal_bytes(pattern: &[u8], name: &[u8]) -> usize
     ensures in_pattern { result ≤ length pattern.now }
     ensures in_name { result ≤ length name.now }
@@ -57,13 +59,7 @@ fn equal_bytes(pattern: &[u8], name: &[u8]) -> usize
     pattern.len()
 }
 
-fn begins_with_star(pattern: &[u8]) -> bool
-    ensures { result ≡ begins_with 42 pattern.now }
-{
-    !pattern.is_empty() && pattern[0] == b'*'
-}
-
-/// Whether the empty name fits.
+// Whether the empty name fits.
 fn is_stars(pattern: &[u8]) -> bool
     ensures { result ≡ fits pattern.now [] }
 {

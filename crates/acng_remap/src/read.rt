@@ -71,7 +71,7 @@ fn read_file(alloc: Global, conf: &Conf, target: &[u8]) -> Result<Target, Target
     }
 }
 
-// What the room holds is of no use any more.
+// A host's text and a path. The room is memory to fill anew.
 #[tactic(auto, unfolding(crate::specs::Readings::host_file))]
 fn read_host(alloc: Global, conf: &Conf, room: Vec<u8>, text: &[u8]) -> Result<Target, TargetFault>
     ensures { Gives (host_file conf.now.groups text.now) result }
