@@ -1,5 +1,5 @@
 -- A configuration past its limit reads as its front does.
-use Rattle.std.proofs.Common.{◌≡◌, ◌∙◌, ◌⊎◌, inl, inr, ◌++◌, ◌<◌, ◌≤◌, ℕ, List, [], Option, Some, None, Ok, Bool, true, nat_lt, length, take, IfSome, sym, ap, ap₂, arith, append-nil, length-append}
+use Rattle.std.proofs.Common.{◌≡◌, ◌∙◌, inl, inr, ◌++◌, ◌<◌, ◌≤◌, ℕ, List, Option, Some, None, Ok, Bool, true, nat_lt, length, IfSome, sym, ap, ap₂, arith, append-nil, length-append}
 use Rattle.std.proofs.lemmas.Bool.{lt-ltb}
 use Rattle.std.proofs.lemmas.List.{take-append-le}
 use Rattle.std.specs.Io.KnownBytes.{Consumes}

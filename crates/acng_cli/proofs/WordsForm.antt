@@ -1,5 +1,5 @@
 -- What `clap`'s tests of the command line come to.
-use Rattle.std.proofs.Common.{◌≡◌, ◌⊎◌, inl, inr, ◌∙◌, ◌&&◌, ◌<◌, ℕ, ℤ, pos, ◌≤ℤ◌, List, [], ◌∷◌, length, slice_index_or, Err, Bool, true, false, cond, Some, None, Option, refl, ap, sym, FitsSigned, w64}
+use Rattle.std.proofs.Common.{◌≡◌, inl, inr, ◌∙◌, ◌&&◌, ◌<◌, ℕ, pos, ◌≤ℤ◌, List, [], ◌∷◌, length, slice_index_or, Err, Bool, true, false, cond, Some, None, refl, ap, sym, FitsSigned, w64}
 use mathlib.Core.Bool.{true≢false}
 use Rattle.std.specs.List.{list_all}
 use Rattle.std.specs.Str.{IsUtf8, is_utf8}

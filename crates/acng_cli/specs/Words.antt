@@ -1,10 +1,10 @@
 -- The words of the command line: the form that `clap` reads them by, and what they say.
-use Rattle.std.specs.Prelude.{◌≡◌, ◌&&◌, ℕ, Bool, true, false, cond, List, [], ◌∷◌, Option, Some, None, Result, Ok, Err, codes, pos, bytes_eq}
+use Rattle.std.specs.Prelude.{◌&&◌, ℕ, Bool, true, false, cond, List, [], ◌∷◌, Option, Some, None, Result, Ok, Err, codes, pos, bytes_eq}
 use Rattle.std.specs.List.{list_all}
 use Rattle.std.specs.Str.{is_utf8}
 use Rattle.std.specs.Str.Parse.{signed_digits_value}
 use lib.IntN.{nat_abs}
-use Rattle.clap.specs.Words.{App, Rule, Row, Text, Kinds, first_of, matches_of, new_app, new_rule, with_rule, fault_of}
+use Rattle.clap.specs.Words.{App, Rule, Text, Kinds, first_of, matches_of, new_app, new_rule, with_rule, fault_of}
 use Rattle.clap.specs.Simple.{on_top}
 use Rattle.clap.specs.ValueTests.{accepts}
 use Rattle.clap.specs.declared.builder.value_parser.ValueParser.{ValueParser}

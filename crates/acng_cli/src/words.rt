@@ -11,6 +11,9 @@ use clap::error::ErrorKind;
 use std::alloc::{AllocError, Global};
 use std::str;
 
+// The greatest number of `gen`.
+const MOST_NUMBER: i64 = 20_000;
+
 /// What the program is asked to do.
 #[derive(Clone, Copy, Debug, PartialEq, Eq)]
 pub enum Command {
@@ -95,7 +98,7 @@ fn form<'a>(alloc: Global) -> Result<clap::Command<'a>, AllocError>
     ensures { IfOk result (λ form. app_of form ≡ words_app) }
 {
     let command = Arg::new(alloc, "COMMAND").required(true);
-    let number = Arg::new(alloc, "NUMBER").value_parser(clap::value_parser!(u32).range(1..=20_000));
+    let number = Arg::new(alloc, "NUMBER").value_parser(clap::value_parser!(u32).range(1..=MOST_NUMBER));
     let conf = Arg::new(alloc, "conf").long("conf");
     let cache = Arg::new(alloc, "cache").long("cache");
     clap::Command::new(alloc, "acng")
@@ -145,7 +148,7 @@ fn number_of(text: &str) -> Option<u32>
     let Ok(number) = text.parse::<i64>() else {
         return None;
     };
-    if number < 1 || number > 20_000 {
+    if number < 1 || number > MOST_NUMBER {
         return None;
     }
     Some(number as u32)

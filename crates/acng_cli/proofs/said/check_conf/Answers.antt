@@ -1,4 +1,4 @@
-use Rattle.std.proofs.Common.{◌≡◌, ◌∙◌, ap}
+use Rattle.std.proofs.Common.{◌∙◌, ap}
 use Rattle.acng_conf.specs.Readings.{reading}
 use Rattle.acng_cli.specs.Maint.{of_conf}
 use Rattle.acng_cli.proofs.Enough.{enough}

@@ -1,11 +1,11 @@
-use Rattle.std.proofs.Common.{◌≡◌, ◌∙◌, rules, ap, ap₂, Some, Option, codes, pos, true, false}
+use Rattle.std.proofs.Common.{◌≡◌, ◌∙◌, rules, ap, ap₂, Some, Option, pos, true, false}
 use Rattle.std.proofs.lemmas.Result.{IfOk-weaker}
 use Rattle.clap.specs.declared.builder.arg.Arg.{Arg}
-use Rattle.clap.specs.Words.{App, Rule, app_of, rule_of, with_rule}
+use Rattle.clap.specs.Words.{Rule, app_of, rule_of, with_rule}
 use Rattle.clap.specs.Simple.{app_of_fields, on_top}
 use Rattle.clap.specs.declared.builder.value_parser.ValueParser.{ValueParser}
 use Rattle.clap.specs.declared.builder.value_parser.ValueParser.TheVariants as vp
-use Rattle.acng_cli.specs.Words.{command_rule, number_rule, conf_rule, cache_rule, bare_app, words_app}
+use Rattle.acng_cli.specs.Words.{command_rule, number_rule, conf_rule, cache_rule, bare_app}
 use Rattle.acng_cli.proofs.words.form.Goals as goal
 
 pub returns : goal.returns

@@ -1,4 +1,4 @@
-use Rattle.std.proofs.Common.{◌≡◌, ◌∙◌, ap, sym, map, codes, List, [], ℕ, Option}
+use Rattle.std.proofs.Common.{◌≡◌, ◌∙◌, ap, sym, map, codes, List, []}
 use Rattle.clap.specs.Words.{App, Text, first_of, matches_of, is_simple, is_simple_and_free, fault_of, found_of, first_value, app_of}
 use Rattle.clap.specs.declared.builder.command.Command.{Command}
 use Rattle.clap.specs.declared.parser.matches.ArgMatches.{ArgMatches}

@@ -21,5 +21,5 @@ returns c =
     let number = c.in-Ok.number in
     let back : to_z w64 (of_z w64 number) ≡ signed_digits_value 10 text = to_z-of_z (subst (λ (z : ℤ). FitsSigned w64 z) (sym read.1) read.0.1) ∙ read.1 in
     let low : pos 1 ≤ℤ signed_digits_value 10 text = subst (λ (z : ℤ). pos 1 ≤ℤ z) back (at_least (to_z w64 (of_z w64 number)) (pos 1) c.if-number-lt1.false) in
-    let high : signed_digits_value 10 text ≤ℤ pos 20000 = subst (λ (z : ℤ). z ≤ℤ pos 20000) back (at_least (pos 20000) (to_z w64 (of_z w64 number)) c.if-number-gt20000.false) in
+    let high : signed_digits_value 10 text ≤ℤ pos 20000 = subst (λ (z : ℤ). z ≤ℤ pos 20000) back (at_least (pos 20000) (to_z w64 (of_z w64 number)) c.if-number-gt-MOST_NUMBER.false) in
     ap (λ (z : ℤ). Some (nat_abs z)) back ∙ sym (number_within text read.0 low high)

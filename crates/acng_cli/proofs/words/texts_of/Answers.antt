@@ -1,4 +1,4 @@
-use Rattle.std.proofs.Common.{◌≡◌, ◌∙◌, ◌++◌, ◌∷◌, [], ◌&&◌, ◌+◌, ap, ap₂, sym, List, ℕ, map, take, true, suc, Bool, slice_index_or, subst, rules, arith, ltb-true}
+use Rattle.std.proofs.Common.{◌≡◌, ◌∙◌, ◌++◌, ◌∷◌, [], ◌&&◌, ◌+◌, ap, ap₂, sym, map, take, true, suc, slice_index_or, subst, rules, arith}
 use Rattle.std.specs.List.{list_all}
 use Rattle.std.specs.Str.{IsUtf8, is_utf8}
 use Rattle.std.proofs.Math.Seq.{take-suc}
