@@ -98,7 +98,8 @@ fn form<'a>(alloc: Global) -> Result<clap::Command<'a>, AllocError>
     ensures { IfOk result (λ form. app_of form ≡ words_app) }
 {
     let command = Arg::new(alloc, "COMMAND").required(true);
-    let number = Arg::new(alloc, "NUMBER").value_parser(clap::value_parser!(u32).range(1..=MOST_NUMBER));
+    let numbers = clap::value_parser!(u32).range(1..=MOST_NUMBER);
+    let number = Arg::new(alloc, "NUMBER").value_parser(numbers);
     let conf = Arg::new(alloc, "conf").long("conf");
     let cache = Arg::new(alloc, "cache").long("cache");
     clap::Command::new(alloc, "acng")
