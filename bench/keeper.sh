@@ -5,23 +5,8 @@ set -eu
 root=$(cd "$(dirname "$0")/.." && pwd)
 scratch=$(mktemp -d "${1:-/tmp}/bench-keeper.XXXXXX")
 trap 'rm -rf "$scratch"' EXIT
-
-# The program is a crate of a copy, so that the repository's own crates stay as they are. It is proved and built as the
-# program is.
-repo=$scratch/repo
-crate=$repo/crates/bench_keeper
-mkdir -p "$crate/src" "$crate/proofs/append_all" "$crate/proofs/read_all"
-cp "$root/HANDLES" "$repo/"
-for name in acng_base acng_keeper; do
-    mkdir "$repo/crates/$name"
-    for part in src specs proofs; do cp -r "$root/crates/$name/$part" "$repo/crates/$name/"; done
-    grep "^$name:" "$root/crates.txt" >> "$repo/crates.txt"
-done
-echo 'bench_keeper: acng_base acng_keeper' >> "$repo/crates.txt"
-cp "$root/bench/keeper/main.rt.txt" "$crate/src/main.rt"
-: > "$crate/proofs/Lib.antt"
-for part in append_all read_all; do cp "$root/bench/keeper/$part.antt.txt" "$crate/proofs/$part/Invariants.antt"; done
-cd "$crate"
+. "$root/bench/crate.sh"
+bench_crate keeper acng_base acng_keeper
 rt run -- "$scratch/cache" > "$scratch/log" 2>&1 || { cat "$scratch/log"; exit 1; }
 rm -rf "$scratch/cache"
 

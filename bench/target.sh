@@ -5,22 +5,8 @@ set -eu
 root=$(cd "$(dirname "$0")/.." && pwd)
 scratch=$(mktemp -d "${1:-/tmp}/bench-target.XXXXXX")
 trap 'rm -rf "$scratch"' EXIT
-
-# The program is a crate of a copy, so that the repository's own crates stay as they are. It is proved and built as the
-# program is.
-repo=$scratch/repo
-crate=$repo/crates/bench_target
-mkdir -p "$crate/src" "$crate/proofs"
-cp "$root/HANDLES" "$repo/"
-for name in acng_base acng_conf acng_remap; do
-    mkdir "$repo/crates/$name"
-    for part in src specs proofs; do cp -r "$root/crates/$name/$part" "$repo/crates/$name/"; done
-    grep "^$name:" "$root/crates.txt" >> "$repo/crates.txt"
-done
-echo 'bench_target: acng_base acng_conf acng_remap' >> "$repo/crates.txt"
-cp "$root/bench/target/main.rt.txt" "$crate/src/main.rt"
-: > "$crate/proofs/Lib.antt"
-cd "$crate"
+. "$root/bench/crate.sh"
+bench_crate target acng_base acng_conf acng_remap
 rt run -- package 1 > "$scratch/log" 2>&1 || { cat "$scratch/log"; exit 1; }
 
 measure() {
