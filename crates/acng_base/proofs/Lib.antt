@@ -1,5 +1,12 @@
-mod Rows
+pub mod Cutting
+pub mod Digits
+mod Endings
+pub mod Folders
 pub mod HeadLemmas
 pub mod Ranges
+mod Rows
 pub mod Scans
+pub mod Searches
 mod Segments
+pub mod Trims
+pub mod WordSteps

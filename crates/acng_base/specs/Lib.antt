@@ -1,8 +1,11 @@
 pub mod Answers
 pub mod Causes
+pub mod Cuts
 pub mod Heads
 pub mod Lines
 pub mod Moments
+pub mod Names
+pub mod Numbers
 pub mod Paths
 pub mod Pipes
 pub mod Tags

@@ -3,7 +3,7 @@ use Rattle.std.specs.Prelude.{ℕ, ◌+◌, Bool, not, ◌&&◌, ◌||◌, ◌==
 use Rattle.std.specs.List.{slice_split, position}
 use Rattle.std.specs.Option.{option_or}
 use Rattle.acng_base.specs.declared.path.PathFault.{PathFault}
-use Rattle.acng_base.specs.declared.path.PathFault.TheVariants.{Empty, TooLong, BadByte, BadSegment}
+use Rattle.acng_base.specs.declared.path.PathFault.TheVariants.{NoMemory, Empty, TooLong, BadByte, BadSegment}
 
 -- a printed ASCII character other than the blank
 abbrev pub is_path_byte : ℕ → Bool
@@ -35,3 +35,11 @@ path_refusal text =
     (option_or (when (nat_lt 1024 (length text)) (TooLong (length text)))
     (option_or (option_map BadByte (position (λ b. not (is_path_byte b)) text))
     (option_map BadSegment (first_bad 0 (segments text)))))
+
+-- the refusal that a call's fault names: want of memory is none
+abbrev pub refusal_of : PathFault → Option PathFault
+refusal_of NoMemory = None
+refusal_of Empty = Some Empty
+refusal_of (TooLong len) = Some (TooLong len)
+refusal_of (BadByte at) = Some (BadByte at)
+refusal_of (BadSegment at) = Some (BadSegment at)

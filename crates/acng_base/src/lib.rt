@@ -6,24 +6,35 @@
 //! `NoMemory`; a call on the outside answers `Failed` only where the object's count of faults rose.
 #![tactic(auto)]
 
-pub mod block;
-pub mod clock;
-pub mod fault;
-pub mod hash;
-pub mod link;
-pub mod memory;
-pub mod path;
-pub mod stdio;
-pub mod stream;
-pub mod tag;
-pub mod text;
+mod block;
+mod bytes;
+mod clock;
+mod fault;
+mod hash;
+mod line;
+mod link;
+mod memory;
+mod name;
+mod number;
+mod path;
+mod stdio;
+mod stream;
+mod tag;
+mod text;
 
 pub use block::{Found, Mark, scan};
+pub use bytes::{copy_at_most, copy_front, find_byte, first_bytes};
 pub use clock::{Clock, FixedClock, HostClock, Moment};
 pub use fault::{Failed, NoMemory};
 pub use hash::Hash;
+pub use line::{
+    Blank, BlankOrCr, Kind, next_line_feed, trim, trim_by, trim_end_by, trim_start_by, without_cr,
+    words, words_by,
+};
 pub use link::{Link, send_all, send_counted};
 pub use memory::MemoryLink;
+pub use name::{base_name, cut_last, last_segment, unpacked};
+pub use number::{MOST_BYTES, are_digits, read_digits, read_length};
 pub use path::{CachePath, PathFault};
 pub use stdio::{StdLink, StdSink, StdSource};
 pub use stream::{MemorySink, MemorySource, Sink, Source, write_all};

@@ -9,6 +9,7 @@ ghost use Rattle.std.specs.Io.KnownBytes.{ReadConsumes, WriteAppends, Keeps};
 ghost use Rattle.acng_base.specs.Causes.{HasCause, one_more};
 ghost use Rattle.acng_base.specs.Pipes.{Pipe, fails, ReadsAs, WritesAs};
 
+use crate::bytes::copy_at_most;
 use crate::fault::{Failed, NoMemory};
 use crate::link::Link;
 use std::alloc::Global;
@@ -85,16 +86,6 @@ impl MemoryLink {
     }
 }
 
-// Copies a front of one slice to the other, at most `cut` bytes.
-fn copy_front(from: &[u8], to: &mut [u8], cut: usize) -> usize
-    ensures count { result ≡ min (min (length from.now) cut) (length to.new) }
-    ensures front { take result to.new ≡ take result from.now }
-{
-    let count = from.len().min(cut).min(to.len());
-    to[..count].copy_from_slice(&from[..count]);
-    count
-}
-
 impl Link for MemoryLink {
     ghost left = { λ l. Some l.left };
 
@@ -115,7 +106,7 @@ impl Link for MemoryLink {
             self.faults = self.faults.saturating_add(1);
             return Err(Failed);
         }
-        let count = copy_front(&self.input[self.at..], buf, self.cut);
+        let count = copy_at_most(&self.input[self.at..], buf, self.cut);
         self.at += count;
         Ok(count)
     }

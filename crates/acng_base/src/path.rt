@@ -10,8 +10,9 @@ ghost use Rattle.std.specs.Cmp.Lexicographic.{slice_cmp};
 ghost use Rattle.std.specs.Cmp.{partial_order_from_own_ties};
 ghost use Rattle.std.specs.Cmp.Rules.{comparing};
 ghost use Rattle.std.proofs.Common.{rules};
-ghost use Rattle.acng_base.specs.Paths.{path_refusal, is_path_byte, is_slash, is_bad_segment, first_bad, segments};
+ghost use Rattle.acng_base.specs.Paths.{path_refusal, refusal_of, is_path_byte, is_slash, is_bad_segment, first_bad, segments};
 
+use crate::bytes::find_byte;
 use crate::fault::NoMemory;
 use std::alloc::Global;
 use std::cmp::Ordering;
@@ -50,11 +51,11 @@ impl CachePath {
     /// The most bytes of a path.
     pub const MOST: usize = 1024;
 
-    /// Reads a path. The first refusal that fits answers.
+    /// Reads a path. The first refusal that fits answers, and `NoMemory` only where the text is a path.
     pub fn read(alloc: Global, text: &[u8]) -> Result<CachePath, PathFault>
         ensures path { IfOk result (λ path. path ≡ text.now) }
         ensures accepted { OnOk result (path_refusal text.now ≡ None) }
-        ensures refused { IfErr result (λ fault. fault ≢ PathFault.NoMemory → path_refusal text.now ≡ Some fault) }
+        ensures refused { IfErr result (λ fault. path_refusal text.now ≡ refusal_of fault) }
     {
         if let Some(fault) = CachePath::refusal(text) {
             return Err(fault);
@@ -127,7 +128,7 @@ fn bad_segment(text: &[u8]) -> Option<usize>
     ensures { result ≡ first_bad 0 (segments text.now) }
 {
     let mut start = 0;
-    while let Some(len) = next_slash(&text[start..]) {
+    while let Some(len) = find_byte(&text[start..], b'/') {
         if names_nothing(&text[start..start + len]) {
             return Some(start);
         }
@@ -138,12 +139,6 @@ fn bad_segment(text: &[u8]) -> Option<usize>
     } else {
         None
     }
-}
-
-fn next_slash(text: &[u8]) -> Option<usize>
-    ensures { result ≡ position is_slash text.now }
-{
-    text.iter().position(|b| *b == b'/')
 }
 
 fn names_nothing(segment: &[u8]) -> bool
