@@ -9,4 +9,5 @@ pub mod Scans
 pub mod Searches
 mod Segments
 pub mod Trims
+pub mod Writes
 pub mod WordSteps

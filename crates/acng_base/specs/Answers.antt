@@ -4,7 +4,7 @@ use Rattle.std.specs.Prelude.{ℕ, zero, suc, ◌+◌, ◌^◌, Bool, true, fals
 use Rattle.std.specs.List.{list_all}
 use Rattle.std.specs.Char.{is_ascii_digit}
 use Rattle.std.specs.Str.Parse.{digits_value}
-use Rattle.acng_base.specs.declared.block.Mark.TheVariants.{Before}
+use Rattle.acng_base.specs.declared.block.LineState.TheVariants.{Before}
 use Rattle.acng_base.specs.Lines.{block_len}
 use Rattle.acng_base.specs.Heads.{Head, head_of, values}
 

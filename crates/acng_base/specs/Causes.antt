@@ -1,5 +1,5 @@
 -- When a call on the outside may say that it failed, and what a broken write leaves.
-use Rattle.std.specs.Prelude.{ℕ, ◌+◌, ◌-◌, ◌^◌, ◌≤◌, min, List, length, take, OnErr, MatchResult, Result}
+use Rattle.std.specs.Prelude.{◌≡◌, ℕ, ◌+◌, ◌-◌, ◌^◌, ◌≤◌, min, List, length, take, OnOk, OnErr, MatchResult, Result}
 use Rattle.std.specs.Io.KnownBytes.{Appends}
 use Rattle.std.specs.declared.option.Option.{Option}
 
@@ -11,9 +11,10 @@ one_more count = min (count + 1) (2 ^ 64 - 1)
 abbrev pub Rose : ℕ → ℕ → Type 0
 Rose before now = one_more before ≤ now
 
--- a count of faults never falls, and an error comes only where it rose
+-- a count of faults never falls, an error comes only where it rose, and success only where it didn't
 pub record HasCause {T E : Type 0} (before now : ℕ) (result : Result T E) : Type 0 where
   pub later : before ≤ now
+  pub worked : OnOk result (now ≡ before)
   pub failed : OnErr result (Rose before now)
 
 -- all of the piece was appended, or at an error a front of it

@@ -1,10 +1,10 @@
 -- Lines, and the blocks of lines that end at an empty one.
 use Rattle.std.specs.Prelude.{◌≡◌, ◌<◌, ◌≤◌, length, ℕ, ◌+◌, List, [], ◌∷◌, Option, Some, None, option_map, option_and_then, ◌==◌, cond}
 use Rattle.httparse.specs.Grammar.{LineEnd, crlf, lf}
-use Rattle.acng_base.specs.declared.block.Found.{Found}
-use Rattle.acng_base.specs.declared.block.Found.TheVariants.{Ends, GoesOn}
-use Rattle.acng_base.specs.declared.block.Mark.{Mark}
-use Rattle.acng_base.specs.declared.block.Mark.TheVariants.{Before, BeforeCr, Inside, Between, BetweenCr}
+use Rattle.acng_base.specs.declared.block.Scan.{Scan}
+use Rattle.acng_base.specs.declared.block.Scan.TheVariants.{End, Incomplete}
+use Rattle.acng_base.specs.declared.block.LineState.{LineState}
+use Rattle.acng_base.specs.declared.block.LineState.TheVariants.{Before, BeforeCr, Inside, Between, BetweenCr}
 
 -- a byte before the lines that follow: a line feed ends a line, and a carriage return right before it belongs to the end
 abbrev pub with_byte : ℕ → List (List ℕ × LineEnd) → List (List ℕ × LineEnd)
@@ -19,7 +19,7 @@ lines [] = []
 lines (b ∷ bs) = cond (b == 10) (([], lf) ∷ lines bs) (with_byte b (lines bs))
 
 -- after one more byte; None where that byte ends the block
-abbrev pub after_byte : Mark → ℕ → Option Mark
+abbrev pub after_byte : LineState → ℕ → Option LineState
 after_byte Before b = cond (b == 10) (Some Before) (cond (b == 13) (Some BeforeCr) (Some Inside))
 after_byte BeforeCr b = cond (b == 10) (Some Before) (Some Inside)
 after_byte Inside b = cond (b == 10) (Some Between) (Some Inside)
@@ -27,21 +27,21 @@ after_byte Between b = cond (b == 10) None (cond (b == 13) (Some BetweenCr) (Som
 after_byte BetweenCr b = cond (b == 10) None (Some Inside)
 
 -- a block that ends with this byte has it alone; else it has it and what follows
-abbrev pub one_more : (Mark → Option ℕ) → Option Mark → Option ℕ
+abbrev pub one_more : (LineState → Option ℕ) → Option LineState → Option ℕ
 one_more rest None = Some 1
 one_more rest (Some n) = option_map (λ k. 1 + k) (rest n)
 
 -- how many bytes of the text belong to the block; None where it doesn't end in the text
-abbrev pub block_len : Mark → List ℕ → Option ℕ
+abbrev pub block_len : LineState → List ℕ → Option ℕ
 block_len m [] = None
 block_len m (b ∷ bs) = one_more (λ n. block_len n bs) (after_byte m b)
 
 -- where the text stands after these bytes, if they don't end the block
-abbrev pub mark_after : Mark → List ℕ → Option Mark
-mark_after m [] = Some m
-mark_after m (b ∷ bs) = option_and_then (λ n. mark_after n bs) (after_byte m b)
+abbrev pub state_after : LineState → List ℕ → Option LineState
+state_after m [] = Some m
+state_after m (b ∷ bs) = option_and_then (λ n. state_after n bs) (after_byte m b)
 
 -- what a scan says
-abbrev pub Scans : Mark → List ℕ → Found → Type 0
-Scans m text (Ends n) = (block_len m text ≡ Some n) × (0 < n) × (n ≤ length text)
-Scans m text (GoesOn n) = mark_after m text ≡ Some n
+abbrev pub Scans : LineState → List ℕ → Scan → Type 0
+Scans m text (End n) = (block_len m text ≡ Some n) × (0 < n) × (n ≤ length text)
+Scans m text (Incomplete n) = state_after m text ≡ Some n

@@ -22,7 +22,7 @@ mod stream;
 mod tag;
 mod text;
 
-pub use block::{Found, Mark, scan};
+pub use block::{LineState, Scan, scan_block};
 pub use bytes::{copy_at_most, copy_front, find_byte, first_bytes};
 pub use clock::{Clock, FixedClock, HostClock, Moment};
 pub use fault::{Failed, NoMemory};

@@ -1,8 +1,8 @@
 //! What no clause says: that the calls succeed with ample memory, and values from outside.
 use crate::{
-    CachePath, Clock, Failed, FixedClock, Found, HostClock, Link, Mark, MemoryLink, MemorySink,
-    MemorySource, Moment, NoMemory, PathFault, Sink, Source, StdLink, StdSink, StdSource, Tag,
-    Text, Texts, scan, send_all, send_counted,
+    CachePath, Clock, Failed, FixedClock, HostClock, LineState, Link, MemoryLink, MemorySink,
+    MemorySource, Moment, NoMemory, PathFault, Scan, Sink, Source, StdLink, StdSink, StdSource,
+    Tag, Text, Texts, scan_block, send_all, send_counted,
 };
 use std::alloc::Global;
 use std::test::Fail;
@@ -136,12 +136,12 @@ fn the_last_moment_repeats(rt: HostRuntime) -> Result<(), Fail> {
 
 // Where the block ends when its text comes in pieces of a length.
 fn block_end(text: &[u8], cut: usize) -> Option<usize> {
-    let mut mark = Mark::Before;
+    let mut state = LineState::Before;
     let mut before = 0usize;
     for piece in text.chunks(cut.max(1)) {
-        match scan(mark, piece) {
-            Found::Ends(count) => return Some(before.saturating_add(count)),
-            Found::GoesOn(next) => mark = next,
+        match scan_block(state, piece) {
+            Scan::End(count) => return Some(before.saturating_add(count)),
+            Scan::Incomplete(next) => state = next,
         }
         before = before.saturating_add(piece.len());
     }

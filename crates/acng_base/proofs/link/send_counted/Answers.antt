@@ -1,21 +1,18 @@
-use Rattle.std.proofs.Common.{ℕ, ◌-◌, length, List, subst, take, drop, arith, length-drop}
-use Rattle.std.proofs.KnownBytes.{Appends-trans, Keeps-trans}
-use Rattle.std.specs.Io.KnownBytes.{Appends}
-use Rattle.acng_base.proofs.Ranges.{front_and_more}
+use Rattle.std.proofs.Common.{arith, length-drop, ◌∙◌}
+use Rattle.std.proofs.KnownBytes.{Keeps-trans}
+use Rattle.acng_base.proofs.Writes.{front_grows}
 use Rattle.acng_base.proofs.link.send_counted.Goals as goal
 
 -- one more write appends the next bytes of the piece
 pub loop-sent-preserved : goal.loop-sent-preserved
 loop-sent-preserved g c =
-    let sent = c.loop-sent.sent in
-    let n = c.in-Ok.count in
-    let piece = c.args.piece.now in
     let W = g.L.Link.written in
     let R = g.L.Link.left in
-    let P : List ℕ → Type 0 = λ bs. Appends (W c.args.link.now) (W c.write.new.self) bs in
+    let now = c.loop-sent.link in
+    let after = c.write.new.self in
     record {
-      within = omega (arith, length-drop sent piece, c.in-Ok.ensures.bound, c.loop-sent.invariant.within);
-      bytes = subst P (front_and_more sent n piece) (Appends-trans (W c.args.link.now) (W c.loop-sent.link) (W c.write.new.self) (take sent piece) (take n (take (length piece - sent) (drop sent piece))) c.loop-sent.invariant.bytes c.in-Ok.ensures.bytes);
-      others = Keeps-trans (R c.args.link.now) (R c.loop-sent.link) (R c.write.new.self) c.loop-sent.invariant.others c.in-Ok.ensures.others;
-      cause = omega (arith, c.loop-sent.invariant.cause, c.in-Ok.ensures.cause.later);
+      within = omega (arith, length-drop c.loop-sent.sent c.args.piece.now, c.in-Ok.ensures.bound, c.loop-sent.invariant.within);
+      bytes = front_grows (W c.args.link.now) (W now) (W after) c.args.piece.now c.loop-sent.sent c.in-Ok.count c.loop-sent.invariant.bytes c.in-Ok.ensures.bytes;
+      others = Keeps-trans (R c.args.link.now) (R now) (R after) c.loop-sent.invariant.others c.in-Ok.ensures.others;
+      count = c.in-Ok.ensures.cause.worked ∙ c.loop-sent.invariant.count;
     }

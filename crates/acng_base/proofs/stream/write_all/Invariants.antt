@@ -1,4 +1,4 @@
-use Rattle.std.proofs.Common.{◌-◌, ◌≤◌, length, take}
+use Rattle.std.proofs.Common.{◌≡◌, ◌-◌, ◌≤◌, length, take}
 use Rattle.std.specs.Io.KnownBytes.{Appends}
 use Rattle.acng_base.proofs.stream.write_all.Given as goal
 
@@ -7,7 +7,7 @@ invariant-loop-sent g l =
     record {
       within : l.sent ≤ length l.piece;
       bytes : Appends (g.W.Sink.written l.fn.sink) (g.W.Sink.written l.sink) (take l.sent l.piece);
-      later : g.W.Sink.faults l.fn.sink ≤ g.W.Sink.faults l.sink;
+      count : g.W.Sink.faults l.sink ≡ g.W.Sink.faults l.fn.sink;
     }
 
 abbrev pub decreases-loop-sent : goal.decreases-loop-sent
