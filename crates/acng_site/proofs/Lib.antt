@@ -1,3 +1,4 @@
 mod HonestRows
+mod HonestWitness
 mod Joins
 mod NextBytes

@@ -1,8 +1,10 @@
 -- What a table of rules says of a site, and what an origin over it does. The rules are this project's own.
-use Rattle.std.specs.Prelude.{◌≡◌, ◌<◌, ℕ, Bool, true, false, ◌&&◌, ◌==◌, nat_le, min, List, [], ◌∷◌, length, drop, cond, Option, Some, None, Result, MatchResult, ⊤}
+use Rattle.std.specs.Prelude.{◌≡◌, ◌<◌, ℕ, Bool, true, false, ◌&&◌, ◌==◌, nat_le, min, cond}
+use Rattle.std.specs.Prelude.{List, [], ◌∷◌, length, drop, Option, Some, None, Result, MatchResult, ⊤}
 use Rattle.std.specs.Str.{bytes_eq}
 use Rattle.acng_site.specs.declared.ask.Ask.{Ask}
 use Rattle.acng_site.specs.declared.rule.Rule.{Rule}
+use Rattle.acng_site.specs.declared.site.Site.{Ghosts as SiteGhosts}
 use Rattle.acng_site.specs.declared.origin.Dial.{Dial}
 use Rattle.acng_site.specs.declared.origin.Dial.TheVariants.{Up, Fault, NoMemory}
 
@@ -25,9 +27,9 @@ fault_of None = true
 fault_of (Some r) = r.fault
 
 -- the site sends and faults as the rules say
-pub record AreRules (sent : ℕ → Ask → List ℕ) (faulted : ℕ → Ask → Bool) (rules : List Rule) : Type 0 where
-  pub bytes : (n : ℕ) (a : Ask) → sent n a ≡ bytes_of (first_rule rules n a)
-  pub faults : (n : ℕ) (a : Ask) → faulted n a ≡ fault_of (first_rule rules n a)
+pub record AreRules {S : Type 0} (s : SiteGhosts S) (rules : List Rule) : Type 0 where
+  pub bytes : (n : ℕ) (a : Ask) → s.sent n a ≡ bytes_of (first_rule rules n a)
+  pub faults : (n : ℕ) (a : Ask) → s.faulted n a ≡ fault_of (first_rule rules n a)
 
 -- an origin over memory: its rules, and the most bytes that a read gives
 pub record Table : Type 0 where

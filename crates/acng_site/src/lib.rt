@@ -5,22 +5,25 @@
 //! out, and it names its attempt and its ask.
 #![tactic(auto)]
 
-pub mod ask;
-pub mod memory;
-pub mod net;
-pub mod origin;
-pub mod request;
-pub mod rule;
-pub mod site;
+mod ask;
+mod conn;
+mod memory;
+mod net;
+mod origin;
+mod request;
+mod rule;
+mod site;
+mod slip;
+mod tries;
 
 pub use acng_base::Tag;
 pub use ask::Ask;
-pub use memory::{Gate, MemoryConn, MemoryOrigin, MemorySlip, NoGate};
-pub use net::{NetConn, NetOrigin, NetSlip};
-pub use origin::{Conn, Dial, Origin, OriginSlip};
+pub use conn::{Conn, OriginSlip};
+pub use memory::{Gate, MemoryConn, MemoryOrigin, NoGate};
+pub use net::{NetConn, NetOrigin};
+pub use origin::{Dial, Origin};
 pub use request::{Request, UrlFault};
 pub use rule::Rule;
 pub use site::{Right, Site, Try, Untold};
-
-#[cfg(test)]
-mod tests;
+pub use slip::AttemptSlip;
+pub use tries::Tries;

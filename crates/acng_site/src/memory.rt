@@ -1,17 +1,20 @@
 //! An origin over memory, for tests: rules say what each attempt gets, and a read gives a few bytes at a time.
 //!
 //! Before each read a gate is passed. A test's gate may wait there, to hold an attempt at a byte that it chooses.
-ghost use Rattle.std.specs.Prelude.{◌≡◌, ◌+◌, ◌<◌, ◌≤◌, Bool, true, false, List, ℕ, [], ◌++◌, length, take, min, IfOk, IfErr, IfSome, OnErr};
+ghost use Rattle.std.specs.Prelude.{◌≡◌, ◌<◌, ◌≤◌, Bool, true, false, List, ℕ, [], ◌++◌, length, take};
+ghost use Rattle.std.specs.Prelude.{IfOk, IfErr, IfSome, OnErr};
 ghost use Rattle.std.specs.Option.{option_copied};
 ghost use Rattle.std.specs.Io.{ReadsAtMost};
 ghost use Rattle.acng_site.specs.Dials.{DialsFor};
 ghost use Rattle.acng_site.specs.Rules.{AreRules, DialsBy, ReadsAs, first_rule as first_rule_of, answers as answers_of};
 
 use crate::ask::Ask;
-use crate::origin::{Conn, Dial, Origin, OriginSlip};
+use crate::conn::{Conn, OriginSlip};
+use crate::origin::{Dial, Origin};
 use crate::rule::Rule;
 use crate::site::{Right, Site, Try};
-use acng_base::{NoMemory, Text};
+use crate::slip::AttemptSlip;
+use acng_base::{NoMemory, Text, copy_at_most};
 use std::alloc::Global;
 use std::marker::{Model, PhantomData};
 use std::snapshot::Snapshot;
@@ -31,23 +34,6 @@ impl Gate for NoGate {
     fn pass(&self, attempt: u64, given: u64) {
         let _ = attempt;
         let _ = given;
-    }
-}
-
-/// That an attempt over memory failed.
-#[derive(Drop)]
-pub struct MemorySlip {
-    number: u64,
-    ask: Snapshot<Snapshot<Ask>>,
-}
-
-impl OriginSlip for MemorySlip {
-    ghost number = { λ s. s.number };
-
-    ghost ask = { λ s. s.ask.value.value };
-
-    fn attempt(&self) -> u64 {
-        self.number
     }
 }
 
@@ -75,7 +61,7 @@ impl<G> Model for MemoryConn<G> {
 }
 
 impl<G: Gate> Conn for MemoryConn<G> {
-    type Slip = MemorySlip;
+    type Slip = AttemptSlip;
 
     ghost number = { λ c. c.number };
 
@@ -91,11 +77,12 @@ impl<G: Gate> Conn for MemoryConn<G> {
         self.number
     }
 
-    fn read(&mut self, buf: &mut [u8]) -> Result<usize, MemorySlip>
+    fn read(&mut self, buf: &mut [u8]) -> Result<usize, AttemptSlip>
         ensures bound { ReadsAtMost result buf.new }
         ensures bytes { IfOk result (λ n. self.old.left ≡ take n buf.new ++ self.new.left) }
         ensures end { IfOk result (λ n. n ≡ 0 → 0 < length buf.new → (self.old.left ≡ []) × (self.old.fault ≡ false)) }
-        ensures slip { IfErr result (λ s. (⟦<MemorySlip as OriginSlip>⟧.number s ≡ self.old.number) × (⟦<MemorySlip as OriginSlip>⟧.ask s ≡ self.old.ask)) }
+        ensures slip { IfErr result (λ s. (⟦<AttemptSlip as OriginSlip>⟧.number s ≡ self.old.number)
+            × (⟦<AttemptSlip as OriginSlip>⟧.ask s ≡ self.old.ask)) }
         ensures broken { OnErr result ((self.old.left ≡ []) × (self.new.left ≡ []) × (self.old.fault ≡ true)) }
         ensures number { self.new.number ≡ self.old.number }
         ensures ask { self.new.ask ≡ self.old.ask }
@@ -103,35 +90,13 @@ impl<G: Gate> Conn for MemoryConn<G> {
         ensures exact { ReadsAs self.old self.new (length buf.old) result }
     {
         self.gate.pass(self.number, self.at as u64);
-        let count = copy_front(&self.bytes.as_bytes()[self.at..], buf, self.cut);
+        let count = copy_at_most(&self.bytes.as_bytes()[self.at..], buf, self.cut);
         if count == 0 && self.fault && !buf.is_empty() {
-            return Err(self.slip());
+            return Err(AttemptSlip::at_read(self.number, &self.ask));
         }
         self.at += count;
         Ok(count)
     }
-}
-
-impl<G> MemoryConn<G> {
-    fn slip(&self) -> MemorySlip
-        ensures number { result.number ≡ self.now.number }
-        ensures ask { result.ask.value.value ≡ self.now.ask }
-    {
-        MemorySlip {
-            number: self.number,
-            ask: Snapshot::of(&self.ask),
-        }
-    }
-}
-
-// Copies a front of one slice to the other, at most `cut` bytes.
-fn copy_front(from: &[u8], to: &mut [u8], cut: usize) -> usize
-    ensures count { result ≡ min (min (length from.now) cut) (length to.new) }
-    ensures front { take result to.new ≡ take result from.now }
-{
-    let count = from.len().min(cut).min(to.len());
-    to[..count].copy_from_slice(&from[..count]);
-    count
 }
 
 /// An origin over rules. Contracts see it as a `Table`.
@@ -151,7 +116,7 @@ impl<S: Site, G> Model for MemoryOrigin<S, G> {
 
     ghost view = { λ o. record { rules = o.rules.items; cut = o.cut } };
 
-    ghost invariant = { λ o. (1 ≤ o.cut) × (S.tells ≡ true → AreRules S.sent S.faulted o.rules.items) };
+    ghost invariant = { λ o. (1 ≤ o.cut) × (S.tells ≡ true → AreRules S.Site o.rules.items) };
 }
 
 impl<S: Site, G: Gate> MemoryOrigin<S, G> {
@@ -164,7 +129,7 @@ impl<S: Site, G: Gate> MemoryOrigin<S, G> {
         gate: G,
     ) -> Result<(MemoryOrigin<S, G>, Right<S>), NoMemory>
         requires cuts { 1 ≤ cut }
-        requires rules { S.tells ≡ true → AreRules S.sent S.faulted rules.now }
+        requires rules { S.tells ≡ true → AreRules S.Site rules.now }
         ensures origin { IfOk result (λ started. started.0 ≡ record { rules = rules.now; cut = cut }) }
         ensures right { IfOk result (λ started. started.1.next ≡ 0) }
     {
@@ -212,20 +177,17 @@ fn answers(rule: &Rule, number: u64, ask: &Ask) -> bool
 }
 
 impl<S: Site, G: Gate> Origin<S> for MemoryOrigin<S, G> {
-    type Slip = MemorySlip;
+    type Slip = AttemptSlip;
 
     type Conn = MemoryConn<G>;
 
-    fn dial(&self, alloc: Global, attempt: Try<S>, ask: &Ask) -> Dial<MemoryConn<G>, MemorySlip>
-        ensures answer { DialsFor S.tells S.sent S.faulted ⟦<MemoryConn<G> as Conn>⟧.tells ⟦<MemoryConn<G> as Conn>⟧.number ⟦<MemoryConn<G> as Conn>⟧.ask ⟦<MemoryConn<G> as Conn>⟧.left ⟦<MemoryConn<G> as Conn>⟧.faulted ⟦<MemorySlip as OriginSlip>⟧.number ⟦<MemorySlip as OriginSlip>⟧.ask attempt.number ask.now result }
+    fn dial(&self, alloc: Global, attempt: Try<S>, ask: &Ask) -> Dial<MemoryConn<G>, AttemptSlip>
+        ensures answer { DialsFor S.Site ⟦<MemoryConn<G> as Conn>⟧ ⟦<AttemptSlip as OriginSlip>⟧ attempt.number ask.now result }
         ensures exact { DialsBy self.now attempt.number ask.now result }
     {
         let number = attempt.spend();
         let Some(rule) = first_rule(self.rules.as_slice(), number, ask) else {
-            return Dial::Fault(MemorySlip {
-                number,
-                ask: Snapshot::of(&Snapshot::of(ask)),
-            });
+            return Dial::Fault(AttemptSlip::at_dial(number, ask));
         };
         let Ok(bytes) = Text::copy(alloc, rule.bytes.as_bytes()) else {
             return Dial::NoMemory;

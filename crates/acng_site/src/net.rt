@@ -1,15 +1,19 @@
 //! Origins over TCP: the trusted edge. Nothing is told of what they send.
 //!
 //! An attempt looks up the host of the ask's URL, tries its addresses in turn, writes the request and then reads. Every
-//! error of std, a lookup that finds nothing and a URL that isn't plain `http` are faults of the attempt. No system call
+//! error of std, a lookup that finds nothing and a URL that isn't dialed are faults of the attempt. No system call
 //! on a socket waits longer than its limit; a lookup waits as long as the system's resolver does.
-ghost use Rattle.std.specs.Prelude.{◌≡◌, ◌<◌, false, [], IfSome};
+ghost use Rattle.std.specs.Prelude.{◌≡◌, ◌<◌, false, [], IfSome, IfErr};
+ghost use Rattle.std.specs.Io.{ReadsAtMost};
+ghost use Rattle.std.specs.Io.KnownBytes.{ReadConsumes};
 ghost use Rattle.acng_site.specs.Dials.{DialsFor};
 
 use crate::ask::Ask;
-use crate::origin::{Conn, Dial, Origin, OriginSlip};
+use crate::conn::{Conn, OriginSlip};
+use crate::origin::{Dial, Origin};
 use crate::request::{Request, UrlFault};
 use crate::site::{Right, Site, Try, Untold};
+use crate::slip::AttemptSlip;
 use std::alloc::Global;
 use std::io;
 use std::io::{Read, Write};
@@ -26,23 +30,6 @@ const READ_SECONDS: u64 = 60;
 const WRITE_SECONDS: u64 = 60;
 /// The port of `http` (RFC 9110, section 4.2.1).
 const HTTP_PORT: u16 = 80;
-
-/// That an attempt over TCP failed.
-#[derive(Drop)]
-pub struct NetSlip {
-    number: u64,
-    ask: Snapshot<Snapshot<Ask>>,
-}
-
-impl OriginSlip for NetSlip {
-    ghost number = { λ s. s.number };
-
-    ghost ask = { λ s. s.ask.value.value };
-
-    fn attempt(&self) -> u64 {
-        self.number
-    }
-}
 
 /// The connection of an attempt over TCP.
 #[derive(Drop)]
@@ -67,7 +54,7 @@ impl<T> NetConn<T> {
 }
 
 impl<T: Read + Drop> Conn for NetConn<T> {
-    type Slip = NetSlip;
+    type Slip = AttemptSlip;
 
     ghost number = { λ c. c.number };
 
@@ -83,13 +70,17 @@ impl<T: Read + Drop> Conn for NetConn<T> {
         self.number
     }
 
-    fn read(&mut self, buf: &mut [u8]) -> Result<usize, NetSlip> {
+    fn read(&mut self, buf: &mut [u8]) -> Result<usize, AttemptSlip>
+        ensures bound { ReadsAtMost result buf.new }
+        ensures slip { IfErr result (λ s. (⟦<AttemptSlip as OriginSlip>⟧.number s ≡ self.old.number)
+            × (⟦<AttemptSlip as OriginSlip>⟧.ask s ≡ self.old.ask.value)) }
+        ensures number { self.new.number ≡ self.old.number }
+        ensures ask { self.new.ask.value ≡ self.old.ask.value }
+        ensures passes_on { ReadConsumes (T.remaining self.old.stream) (T.remaining self.new.stream) result buf.new }
+    {
         match self.stream.read(buf) {
             Ok(count) => Ok(count),
-            Err(_) => Err(NetSlip {
-                number: self.number,
-                ask: Snapshot::of(&self.ask),
-            }),
+            Err(_) => Err(AttemptSlip::at_read(self.number, &self.ask)),
         }
     }
 }
@@ -110,7 +101,7 @@ impl<N: Net + Drop> NetOrigin<N> {
 }
 
 impl<N: Net + Drop> Origin<Untold> for NetOrigin<N> {
-    type Slip = NetSlip;
+    type Slip = AttemptSlip;
 
     type Conn = NetConn<N::Stream>;
 
@@ -119,30 +110,21 @@ impl<N: Net + Drop> Origin<Untold> for NetOrigin<N> {
         alloc: Global,
         attempt: Try<Untold>,
         ask: &Ask,
-    ) -> Dial<NetConn<N::Stream>, NetSlip>
+    ) -> Dial<NetConn<N::Stream>, AttemptSlip>
         requires since { IfSome ask.now.since (λ moment. moment.0 < 253402300800) }
-        ensures answer { DialsFor ⟦<Untold as Site>⟧.tells ⟦<Untold as Site>⟧.sent ⟦<Untold as Site>⟧.faulted ⟦<NetConn<N::Stream> as Conn>⟧.tells ⟦<NetConn<N::Stream> as Conn>⟧.number ⟦<NetConn<N::Stream> as Conn>⟧.ask ⟦<NetConn<N::Stream> as Conn>⟧.left ⟦<NetConn<N::Stream> as Conn>⟧.faulted ⟦<NetSlip as OriginSlip>⟧.number ⟦<NetSlip as OriginSlip>⟧.ask attempt.number ask.now result }
+        ensures answer { DialsFor ⟦<Untold as Site>⟧ ⟦<NetConn<N::Stream> as Conn>⟧ ⟦<AttemptSlip as OriginSlip>⟧
+            attempt.number ask.now result }
     {
         let number = attempt.spend();
         let request = match Request::of(alloc, ask) {
             Ok(request) => request,
-            Err(UrlFault::NotHttp) => return Dial::Fault(slip(number, ask)),
+            Err(UrlFault::NotDialed) => return Dial::Fault(AttemptSlip::at_dial(number, ask)),
             Err(UrlFault::NoMemory) => return Dial::NoMemory,
         };
         match send(&self.net, &request) {
             Ok(stream) => Dial::Up(NetConn::over(stream, number, ask)),
-            Err(_) => Dial::Fault(slip(number, ask)),
+            Err(_) => Dial::Fault(AttemptSlip::at_dial(number, ask)),
         }
-    }
-}
-
-fn slip(number: u64, ask: &Ask) -> NetSlip
-    ensures number { result.number ≡ number }
-    ensures ask { result.ask.value.value ≡ ask.now }
-{
-    NetSlip {
-        number,
-        ask: Snapshot::of(&Snapshot::of(ask)),
     }
 }
 
@@ -161,8 +143,7 @@ fn connect<N: Net>(net: &N, url: &Url) -> io::Result<N::Stream> {
     match url.host() {
         Some(Host::Domain(name)) => connect_to(net, (name, port)),
         Some(Host::Ipv4(ip)) => connect_to(net, (ip, port)),
-        Some(Host::Ipv6(ip)) => connect_to(net, (ip, port)),
-        None => Err(io::Error::from(io::ErrorKind::NotFound)),
+        Some(Host::Ipv6(_)) | None => Err(io::Error::from(io::ErrorKind::NotFound)),
     }
 }
 

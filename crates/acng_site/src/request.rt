@@ -5,7 +5,7 @@
 ghost use Rattle.std.specs.Prelude.{◌≡◌, ◌<◌, ◌++◌, List, ℕ, codes, decimal, IfOk, IfSome, OnOk, IsErrOf, IsOkUnless};
 ghost use Rattle.httpdate.specs.Date.{unix_secs};
 ghost use Rattle.url.specs.Parts.{Parts};
-ghost use Rattle.acng_site.specs.Requests.{ReadsAsHttp, IsRequestOf, IsSinceLine, host_part, range_lines, target};
+ghost use Rattle.acng_site.specs.Requests.{IsDialed, IsRequestOf, IsSinceLine, host_part, is_literal, range_lines, target};
 
 use crate::ask::Ask;
 use acng_base::{Moment, NoMemory, Text};
@@ -13,13 +13,13 @@ use httpdate::HttpDate;
 use itoa::Buffer;
 use std::alloc::Global;
 use std::str;
-use url::{ParseError, Position, Url};
+use url::{Host, ParseError, Position, Url};
 
 /// Why a text isn't taken as the URL of an ask.
 #[derive(Clone, Copy, Debug, PartialEq, Eq)]
 pub enum UrlFault {
-    /// It doesn't read as a URL, or its scheme isn't `http`.
-    NotHttp,
+    /// It doesn't read as a URL, its scheme isn't `http`, or its host is an IPv6 literal.
+    NotDialed,
     /// Memory was refused, or the URL came to 4 GB.
     NoMemory,
 }
@@ -35,10 +35,10 @@ impl Request {
     /// The request of an ask. A moment to compare with is one that HTTP can write: before the year 10000.
     pub fn of(alloc: Global, ask: &Ask) -> Result<Request, UrlFault>
         requires since { IfSome ask.now.since (λ moment. moment.0 < 253402300800) }
-        ensures url { IfOk result (λ request. ReadsAsHttp ask.now.url request.url) }
+        ensures url { IfOk result (λ request. IsDialed ask.now.url request.url) }
         ensures text { IfOk result (λ request. IsRequestOf request.url ask.now request.text) }
-        ensures accepted { (u : Parts) → ReadsAsHttp ask.now.url u → IsOkUnless result UrlFault.NoMemory }
-        ensures not_http { IsErrOf result UrlFault.NotHttp → (u : Parts) → ¬ (ReadsAsHttp ask.now.url u) }
+        ensures accepted { (u : Parts) → IsDialed ask.now.url u → IsOkUnless result UrlFault.NoMemory }
+        ensures not_dialed { IsErrOf result UrlFault.NotDialed → (u : Parts) → ¬ (IsDialed ask.now.url u) }
     {
         let url = http_url(alloc, ask.url.as_bytes())?;
         let Ok(text) = ask_text(alloc, &url, ask) else {
@@ -50,18 +50,25 @@ impl Request {
 
 // Reads the URL of an ask.
 fn http_url(alloc: Global, text: &[u8]) -> Result<Url, UrlFault>
-    ensures url { IfOk result (λ url. ReadsAsHttp text.now url) }
-    ensures accepted { (u : Parts) → ReadsAsHttp text.now u → IsOkUnless result UrlFault.NoMemory }
-    ensures not_http { IsErrOf result UrlFault.NotHttp → (u : Parts) → ¬ (ReadsAsHttp text.now u) }
+    ensures url { IfOk result (λ url. IsDialed text.now url) }
+    ensures accepted { (u : Parts) → IsDialed text.now u → IsOkUnless result UrlFault.NoMemory }
+    ensures not_dialed { IsErrOf result UrlFault.NotDialed → (u : Parts) → ¬ (IsDialed text.now u) }
 {
     let Ok(text) = str::from_utf8(text) else {
-        return Err(UrlFault::NotHttp);
+        return Err(UrlFault::NotDialed);
     };
     match Url::parse(alloc, text) {
-        Ok(url) if url.scheme() == "http" => Ok(url),
+        Ok(url) if url.scheme() == "http" && !has_literal(&url) => Ok(url),
         Err(ParseError::OutOfMemory | ParseError::Overflow) => Err(UrlFault::NoMemory),
-        _ => Err(UrlFault::NotHttp),
+        _ => Err(UrlFault::NotDialed),
     }
+}
+
+// Whether the host is an IPv6 literal, which isn't dialed.
+fn has_literal(url: &Url) -> bool
+    ensures { result ≡ is_literal url.now.host }
+{
+    matches!(url.host(), Some(Host::Ipv6(_)))
 }
 
 // The text that asks for it at the URL.

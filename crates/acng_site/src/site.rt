@@ -88,14 +88,21 @@ impl<S: Site> Right<S> {
     {
         let number = self.next;
         self.next += 1;
+        Try::of_number(number)
+    }
+}
+
+impl<S: Site> Try<S> {
+    // The attempt of a number that a right gave away.
+    pub(crate) fn of_number(number: u64) -> Try<S>
+        ensures { result.number ≡ number }
+    {
         Try {
             number,
             of: PhantomData,
         }
     }
-}
 
-impl<S: Site> Try<S> {
     pub fn number(&self) -> u64
         ensures { result ≡ self.now.number }
     {

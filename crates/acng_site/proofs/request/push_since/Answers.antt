@@ -8,8 +8,11 @@ pub returns : goal.returns
 returns c =
     let date = c.date_of.result in
     let line = codes "If-Modified-Since: " ++ date_text date ++ codes "\r\n" in
-    let since : IsSinceLine c.args.ask.now.since line = subst (λ s. IsSinceLine s line) (sym c.in-Some.is) (date, c.date_of.ensures, refl) in
+    let since : IsSinceLine c.args.ask.now.since line =
+    subst (λ s. IsSinceLine s line) (sym c.in-Some.is) (date, c.date_of.ensures, refl) in
     let first = c.in_ok-extend_from_slice.ensures.items in
-    let second = c.in_ok-extend_from_slice-2.ensures.items ∙ ap (λ piece. c.extend_from_slice.new.self.items ++ piece) (c.as_slice.ensures ∙ c.to_bytes.ensures) in
+    let second =
+    c.in_ok-extend_from_slice-2.ensures.items
+    ∙ ap (λ piece. c.extend_from_slice.new.self.items ++ piece) (c.as_slice.ensures ∙ c.to_bytes.ensures) in
     let last = c.in_ok-extend_from_slice-3.ensures.items in
     (line, since, three _ (codes "If-Modified-Since: ") (date_text date) (codes "\r\n") _ _ _ first second last)
