@@ -10,6 +10,7 @@ mod block;
 mod bytes;
 mod clock;
 mod fault;
+mod files;
 mod hash;
 mod line;
 mod link;
@@ -26,6 +27,7 @@ pub use block::{LineState, Scan, scan_block};
 pub use bytes::{copy_at_most, copy_front, find_byte, first_bytes};
 pub use clock::{Clock, FixedClock, HostClock, Moment};
 pub use fault::{Failed, NoMemory};
+pub use files::{FileFault, named};
 pub use hash::Hash;
 pub use line::{
     Blank, BlankOrCr, Kind, next_line_feed, trim, trim_by, trim_end_by, trim_start_by, without_cr,
