@@ -1,5 +1,7 @@
 -- A body's handle, as contracts see it.
 use Rattle.std.specs.Prelude.{◌≡◌, ℕ, ◌+◌, Bool, true, false, List, [], ◌++◌, length}
+use Rattle.acng_keeper.specs.declared.folder_file.Data.{Data}
+use Rattle.acng_keeper.specs.declared.folder_file.Data.TheVariants.{Written, Synced, Lost}
 
 pub record Handle : Type 0 where
   -- the id with which the keeper gave it
@@ -24,3 +26,9 @@ fresh id = record { number = id; size = 0; bytes = []; writable = true }
 -- the same body, not to be written again
 abbrev pub closed : Handle → Handle
 closed h = record { number = h.number; size = h.size; bytes = h.bytes; writable = false }
+
+-- the system refused to put the data on the disk
+abbrev pub is_lost : Data → Bool
+is_lost Written = false
+is_lost Synced = false
+is_lost Lost = true

@@ -4,7 +4,7 @@ use Rattle.std.specs.List.{list_any}
 use Rattle.std.specs.FinMap as map
 use Rattle.acng_keeper.specs.declared.effect.Effect.{Effect}
 use Rattle.acng_keeper.specs.declared.effect.Effect.TheVariants.{Sealed, HeadPut, HeadRemoved, BodyRemoved}
-use Rattle.acng_keeper.specs.Kept.{Kept, Stored, stored, changed_by}
+use Rattle.acng_keeper.specs.Kept.{Kept, Stored, stored, changed_by, IsSound, AreApart}
 
 -- what these effects make of it, one after the other
 abbrev pub changed : List Effect → Stored → Stored
@@ -48,5 +48,11 @@ seals id (BodyRemoved other) = false
 pub record IsImage (old new : Kept) (old_next new_next : ℕ) (image : Kept) : Type 0 where
   pub count : ℕ
   pub made : stored image ≡ changed (take count (since old new)) (stored old)
-  pub loose : (id : ℕ) → map.contains_key image.loose id ≡ true → (map.contains_key old.loose id ≡ true) ⊎ ((old_next ≤ id) × (id < new_next))
+  pub loose : (id : ℕ) → map.contains_key image.loose id ≡ true
+      → (map.contains_key old.loose id ≡ true) ⊎ ((old_next ≤ id) × (id < new_next))
   pub unsealed : (id : ℕ) → map.contains_key image.loose id ≡ true → list_any (seals id) (take count (since old new)) ≡ false
+
+-- no body of what a stop leaves is both sealed and unsealed
+abbrev pub ImagesAreApart : Type 0
+ImagesAreApart = (old new image : Kept) (old_next new_next : ℕ) → IsSound old_next old
+    → IsImage old new old_next new_next image → AreApart image.bodies image.loose

@@ -1,5 +1,5 @@
 -- What a keeper has, and what an effect makes of it.
-use Rattle.std.specs.Prelude.{◌≡◌, ◌⊎◌, ◌≤◌, ◌+◌, ℕ, Bool, true, false, List, [], ◌∷◌, ◌++◌}
+use Rattle.std.specs.Prelude.{◌≡◌, ◌⊎◌, ◌||◌, ◌≤◌, ◌+◌, ℕ, Bool, true, false, List, [], ◌∷◌, ◌++◌}
 use Rattle.std.specs.Ordering.{nat_cmp}
 use Rattle.std.specs.FinMap as map
 use Rattle.acng_keeper.specs.declared.effect.Effect.{Effect}
@@ -21,6 +21,14 @@ pub record Kept : Type 0 where
   pub loose : IdSet
   pub taken : ℕ
   pub trail : List Effect
+
+-- the id has a head
+abbrev pub has_head : Kept → ℕ → Bool
+has_head k id = map.contains_key k.heads id
+
+-- the id has a body, sealed or not
+abbrev pub has_body : Kept → ℕ → Bool
+has_body k id = map.contains_key k.bodies id || map.contains_key k.loose id
 
 -- ---- what an effect makes of it
 

@@ -1,5 +1,5 @@
 -- When a call of a keeper or a body may answer that it failed.
-use Rattle.std.specs.Prelude.{ℕ, ◌≡◌, ◌≤◌, Bool, true}
+use Rattle.std.specs.Prelude.{ℕ, List, ◌≡◌, ◌≤◌, Bool, true}
 use Rattle.acng_base.specs.Causes.{Rose}
 use Rattle.acng_keeper.specs.declared.slip.KeepFault.{KeepFault}
 use Rattle.acng_keeper.specs.declared.slip.KeepFault.TheVariants.{Slip, NoMemory}
@@ -12,6 +12,11 @@ pub record Faults : Type 0 where
 -- no call failed yet
 abbrev pub none_yet : Bool → Faults
 none_yet may_fail = record { count = 0; may_fail = may_fail }
+
+-- the numbers of the calls that fail, and the faults of one object that makes some of them
+pub record Plan : Type 0 where
+  pub list : List ℕ
+  pub faults : Faults
 
 -- the count never falls, and whether calls may fail stays
 pub record Later (old new : Faults) : Type 0 where

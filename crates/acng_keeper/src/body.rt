@@ -1,5 +1,5 @@
 //! A stored body: bytes that are put at the end until it is sealed, and that never change from then on.
-ghost use Rattle.std.specs.Prelude.{◌≡◌, ◌-◌, ◌<◌, ◌≤◌, Bool, true, length, take, drop, IfOk, OnOk, IfErr, OnErr};
+ghost use Rattle.std.specs.Prelude.{◌≡◌, ◌-◌, ◌<◌, ◌≤◌, Bool, true, false, length, take, drop, IfOk, OnOk, IfErr, OnErr};
 ghost use Rattle.std.specs.Io.{ReadsAtMost};
 ghost use Rattle.acng_keeper.specs.Handles.{Handle, Appended};
 ghost use Rattle.acng_keeper.specs.Slips.{Faults, HasFailed, Later, SlipRose};
@@ -20,6 +20,9 @@ pub trait BodyFile: Drop {
 
     ghost handle: { Self → Handle };
 
+    /// A flush of it was refused, so its keeper never seals it.
+    ghost lost: { Self → Bool };
+
     ghost faults: { Self → Faults };
 
     /// Puts the piece at the end. After a refusal a later append goes on from the same place.
@@ -30,6 +33,20 @@ pub trait BodyFile: Drop {
         // A refusal, and what it leaves.
         ensures cause { IfErr result (λ e. SlipRose e (faults self.old) (faults self.new)) }
         ensures same { OnErr result (handle self.new ≡ handle self.old) }
+        ensures as_lost { lost self.new ≡ lost self.old }
+        ensures later { Later (faults self.old) (faults self.new) };
+
+    /// Makes the bytes durable without sealing the body, so that `seal` has nothing left to write: it takes as long as
+    /// the disk does, and is called before a lock is taken. A refusal means that the system may have dropped bytes
+    /// unseen, so the body is lost.
+    fn flush(&mut self) -> Result<(), Self::Slip>
+        ensures sound { OnOk result (lost self.new ≡ false) }
+
+        // A refusal, and what it leaves.
+        ensures cause { OnErr result (HasFailed (faults self.old) (faults self.new)) }
+        ensures refused { OnErr result (lost self.new ≡ true) }
+        ensures still_lost { lost self.old ≡ true → lost self.new ≡ true }
+        ensures same { handle self.new ≡ handle self.old }
         ensures later { Later (faults self.old) (faults self.new) };
 
     /// Reads from a place on, at least one byte where one is there and fits.
@@ -42,6 +59,7 @@ pub trait BodyFile: Drop {
         // A refusal, and what it leaves.
         ensures cause { OnErr result (HasFailed (faults self.old) (faults self.new)) }
         ensures same { handle self.new ≡ handle self.old }
+        ensures as_lost { lost self.new ≡ lost self.old }
         ensures later { Later (faults self.old) (faults self.new) };
 
     /// How many bytes it has.
@@ -54,4 +72,7 @@ pub trait BodyFile: Drop {
 
     /// The size is that of the bytes.
     ghost sized: { (b : Self) → tells ≡ true → (handle b).size ≡ length (handle b).bytes };
+
+    /// A body is lost only where its calls may fail.
+    ghost lossy: { (b : Self) → lost b ≡ true → (faults b).may_fail ≡ true };
 }

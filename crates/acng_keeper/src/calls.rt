@@ -1,9 +1,9 @@
 //! The calls of a keeper and of its bodies, numbered together from 0, and the slip of a call that failed.
-ghost use Rattle.std.specs.Prelude.{◌≡◌, ◌<◌, ℕ, nat_lt, length, IfOk, OnOk, OnErr, true, false};
-ghost use Rattle.acng_keeper.specs.Slips.{Faults, HasFailed, Later, none_yet};
+ghost use Rattle.std.specs.Prelude.{◌≡◌, ◌<◌, ℕ, nat_lt, length, Contains, IfOk, IfErr, OnOk, OnErr, Ok, is_some, true, false};
+ghost use Rattle.acng_keeper.specs.Slips.{Faults, Plan, HasFailed, Later, SlipRose, none_yet};
 
-use crate::slip::KeeperSlip;
-use acng_base::NoMemory;
+use crate::slip::{KeepFault, KeeperSlip};
+use acng_base::{FileFault, NoMemory};
 use std::alloc::Global;
 use std::marker::Model;
 use std::sync::Arc;
@@ -20,6 +20,16 @@ impl KeeperSlip for CallSlip {
 
     fn call(&self) -> u64 {
         self.number
+    }
+}
+
+impl From<CallSlip> for KeepFault<CallSlip> {
+    ghost use Rattle.acng_keeper.specs.declared.slip.KeepFault.TheVariants.{Slip};
+
+    ghost from_gives = { λ slip fault. fault ≡ Slip slip };
+
+    fn from(slip: CallSlip) -> KeepFault<CallSlip> {
+        KeepFault::Slip(slip)
     }
 }
 
@@ -58,12 +68,12 @@ impl Numbers {
 /// The calls of one object over the real outside, any of which may fail, and how often one did. Contracts see the
 /// faults.
 #[derive(Drop)]
-pub(crate) struct Account {
+pub(crate) struct FaultCount {
     numbers: Numbers,
     faults: u64,
 }
 
-impl Model for Account {
+impl Model for FaultCount {
     ghost use Rattle.std.specs.Prelude.{true};
     ghost use Rattle.acng_keeper.specs.Slips.{Faults};
 
@@ -72,21 +82,22 @@ impl Model for Account {
     ghost view = { λ a. record { count = a.faults; may_fail = true } };
 }
 
-impl Account {
-    pub(crate) fn new(alloc: Global) -> Result<Account, NoMemory>
-        ensures { IfOk result (λ account. account ≡ none_yet true) }
+impl FaultCount {
+    pub(crate) fn new(alloc: Global) -> Result<FaultCount, NoMemory>
+        ensures { IfOk result (λ calls. calls ≡ none_yet true) }
     {
-        Ok(Account {
+        Ok(FaultCount {
             numbers: Numbers::new(alloc)?,
             faults: 0,
         })
     }
 
     /// That of a body of this keeper.
-    pub(crate) fn share(&self) -> Result<Account, NoMemory>
-        ensures { IfOk result (λ account. account ≡ none_yet self.now.may_fail) }
+    pub(crate) fn share(&self) -> Result<FaultCount, NoMemory>
+        ensures calls { IfOk result (λ calls. calls ≡ none_yet self.now.may_fail) }
+        ensures may_fail { IfOk result (λ calls. calls.may_fail ≡ true) }
     {
-        Ok(Account {
+        Ok(FaultCount {
             numbers: self.numbers.share()?,
             faults: 0,
         })
@@ -105,59 +116,78 @@ impl Account {
         self.faults = self.faults.saturating_add(1);
         CallSlip { number }
     }
+
+    /// What the call with this number answers, its work having ended so.
+    pub(crate) fn answer<T: Drop>(
+        &mut self,
+        number: u64,
+        done: Result<T, FileFault>,
+    ) -> Result<T, KeepFault<CallSlip>>
+        ensures done { IfOk result (λ v. done ≡ Ok v) }
+        ensures cause { IfErr result (λ e. SlipRose e self.old self.new) }
+        ensures later { Later self.old self.new }
+    {
+        match done {
+            Ok(value) => Ok(value),
+            Err(FileFault::Failed) => Err(KeepFault::Slip(self.fail(number))),
+            Err(FileFault::NoMemory) => Err(KeepFault::NoMemory),
+        }
+    }
 }
 
-/// The calls of one object over memory: those of its keeper that fail, and how often one of its own failed. Contracts see the
-/// faults.
+/// The calls of one object over memory: the numbers of those that fail, and how often one of its own failed. Contracts
+/// see the list and the faults.
 #[derive(Drop)]
-pub(crate) struct Calls {
+pub(crate) struct FailPlan {
     numbers: Numbers,
-    fail: Arc<Vec<u64>>,
+    list: Arc<Vec<u64>>,
     may_fail: bool,
     faults: u64,
 }
 
-impl Model for Calls {
-    ghost use Rattle.acng_keeper.specs.Slips.{Faults};
+impl Model for FailPlan {
+    ghost use Rattle.acng_keeper.specs.Slips.{Plan};
 
-    ghost Value = { Faults };
+    ghost Value = { Plan };
 
-    ghost view = { λ c. record { count = c.faults; may_fail = c.may_fail } };
+    ghost view = { λ p. record { list = p.list.value.items; faults = record { count = p.faults; may_fail = p.may_fail } } };
 }
 
-impl Calls {
+impl FailPlan {
     /// The calls of a keeper whose calls with these numbers fail.
-    pub(crate) fn new(alloc: Global, fail: &[u64]) -> Result<Calls, NoMemory>
-        ensures { IfOk result (λ calls. calls ≡ none_yet (nat_lt 0 (length fail.now))) }
+    pub(crate) fn new(alloc: Global, list: &[u64]) -> Result<FailPlan, NoMemory>
+        ensures list { IfOk result (λ plan. plan.list ≡ list.now) }
+        ensures faults { IfOk result (λ plan. plan.faults ≡ none_yet (nat_lt 0 (length list.now))) }
     {
-        let list = Vec::from_slice(alloc, fail)?;
-        Ok(Calls {
+        let own = Vec::from_slice(alloc, list)?;
+        Ok(FailPlan {
             numbers: Numbers::new(alloc)?,
-            fail: Arc::new(alloc, list)?,
-            may_fail: !fail.is_empty(),
+            list: Arc::new(alloc, own)?,
+            may_fail: !list.is_empty(),
             faults: 0,
         })
     }
 
     /// The calls of a body of this keeper.
-    pub(crate) fn share(&self) -> Result<Calls, NoMemory>
-        ensures { IfOk result (λ calls. calls ≡ none_yet self.now.may_fail) }
+    pub(crate) fn share(&self) -> Result<FailPlan, NoMemory>
+        ensures list { IfOk result (λ plan. plan.list ≡ self.now.list) }
+        ensures faults { IfOk result (λ plan. plan.faults ≡ none_yet self.now.faults.may_fail) }
     {
-        Ok(Calls {
+        Ok(FailPlan {
             numbers: self.numbers.share()?,
-            fail: Arc::try_clone(&self.fail)?,
+            list: Arc::try_clone(&self.list)?,
             may_fail: self.may_fail,
             faults: 0,
         })
     }
 
     /// The same, but no further call fails.
-    pub(crate) fn calm(self) -> Calls
-        ensures { result ≡ none_yet false }
+    pub(crate) fn without_failures(self) -> FailPlan
+        ensures { result.faults ≡ none_yet false }
     {
-        Calls {
+        FailPlan {
             numbers: self.numbers,
-            fail: self.fail,
+            list: self.list,
             may_fail: false,
             faults: 0,
         }
@@ -165,18 +195,44 @@ impl Calls {
 
     /// Begins a call. It fails where its number is one of those that fail.
     pub(crate) fn begin(&mut self) -> Result<(), CallSlip>
-        ensures failed { OnErr result (HasFailed self.old self.new) }
+        ensures failed { OnErr result (HasFailed self.old.faults self.new.faults) }
+        ensures named { IfErr result (λ slip. Contains self.old.list slip.number) }
         ensures same { OnOk result (self.new ≡ self.old) }
-        ensures later { Later self.old self.new }
+        ensures list { self.new.list ≡ self.old.list }
+        ensures later { Later self.old.faults self.new.faults }
     {
         if !self.may_fail {
             return Ok(());
         }
         let number = self.numbers.draw();
-        if !self.fail.contains(&number) {
+        if !self.list.contains(&number) {
             return Ok(());
         }
+        Err(self.fail(number))
+    }
+
+    /// Refuses what an earlier call with this number spoiled, unless no call fails.
+    pub(crate) fn pass(&mut self, spoiled: Option<u64>) -> Result<(), CallSlip>
+        ensures passed { OnOk result (self.old.faults.may_fail ≡ true → is_some spoiled ≡ false) }
+        ensures failed { OnErr result (HasFailed self.old.faults self.new.faults) }
+        ensures same { OnOk result (self.new ≡ self.old) }
+        ensures later { Later self.old.faults self.new.faults }
+    {
+        match spoiled {
+            Some(number) if self.may_fail => Err(self.fail(number)),
+            _ => Ok(()),
+        }
+    }
+
+    /// The slip of a call that fails since the call with this number did.
+    pub(crate) fn fail(&mut self, number: u64) -> CallSlip
+        requires { self.old.faults.may_fail ≡ true }
+        ensures number { result.number ≡ number }
+        ensures failed { HasFailed self.old.faults self.new.faults }
+        ensures list { self.new.list ≡ self.old.list }
+        ensures later { Later self.old.faults self.new.faults }
+    {
         self.faults = self.faults.saturating_add(1);
-        Err(CallSlip { number })
+        CallSlip { number }
     }
 }

@@ -5,33 +5,41 @@
 //! and renamed. The head itself isn't synced: one that a power failure loses or tears is only a body that is fetched
 //! again, since a torn head doesn't read, while a good head over other bytes must never be.
 //!
-//! One keeper at a time has the folder: it holds a lock on the folder's own handle. The folder is synced as it is
-//! opened: an id is used a second time only after that, and a removed head must not come back over another body.
-//! Bodies are read and written at places, each by one system call.
+//! One keeper at a time has the folder: it holds a lock on the folder's own handle. A program that serves refuses a
+//! folder that another has; one that ends by itself waits for it, so that several may be started at a time. The folder
+//! is synced as it is opened: an id is used a second time only after that, and a removed head must not come back over
+//! another body. Bodies are read and written at places, each by one system call.
 ghost use Rattle.std.specs.Prelude.{◌≡◌, ◌≤◌, ◌^◌, true, false, IfOk};
 ghost use Rattle.std.specs.Map.{keys_of};
 ghost use Rattle.acng_keeper.specs.Kept.{nothing};
+ghost use Rattle.acng_keeper.specs.Handles.{is_lost};
 ghost use Rattle.acng_keeper.specs.Lists.{AllBelow};
 ghost use Rattle.acng_keeper.specs.Slips.{none_yet};
 ghost use mathlib.Core.Bool.{true≢false};
-ghost use mathlib.Core.Path.{sym};
+ghost use mathlib.Core.Path.{refl, sym};
 
 use crate::body::BodyId;
-use crate::calls::{Account, CallSlip};
+use crate::calls::{CallSlip, FaultCount};
 use crate::folder_file::{Data, FolderBody};
 use crate::folder_scan::{bodies_in, heads_in, next_in};
 use crate::keeper::Keeper;
 use crate::lists::{Heads, Ids};
 use crate::names::{Kind, path_in};
 use crate::slip::KeepFault;
-use crate::trouble::{Trouble, fault};
-use acng_base::NoMemory;
+use acng_base::{FileFault, NoMemory};
 use std::alloc::{AllocError, Global};
 use std::fs::{File, TryLockError};
 use std::io::ErrorKind;
 use std::os::unix::fs::FileExt;
 use std::rt::Files;
-use std::{fs, io};
+use std::time::{Clock, Duration};
+use std::{fs, io, thread};
+
+/// How long a program that ends by itself waits for a folder that another keeper has.
+pub const LOCK_SECONDS: u64 = 30;
+
+/// How often it asks for the lock in a second.
+const ASKS_PER_SECOND: u64 = 20;
 
 /// Why a folder wasn't opened.
 #[derive(Debug, Drop)]
@@ -43,18 +51,18 @@ pub enum OpenFault {
     NoMemory,
 }
 
-impl From<Trouble> for OpenFault {
-    fn from(trouble: Trouble) -> OpenFault {
-        match trouble {
-            Trouble::Failed => OpenFault::Failed,
-            Trouble::NoMemory => OpenFault::NoMemory,
+impl From<FileFault> for OpenFault {
+    fn from(fault: FileFault) -> OpenFault {
+        match fault {
+            FileFault::Failed => OpenFault::Failed,
+            FileFault::NoMemory => OpenFault::NoMemory,
         }
     }
 }
 
 impl From<io::Error> for OpenFault {
     fn from(error: io::Error) -> OpenFault {
-        OpenFault::from(Trouble::from(error))
+        OpenFault::from(FileFault::from(error))
     }
 }
 
@@ -82,22 +90,31 @@ pub struct FolderKeeper<R: Files<File = File> + AllocGlobal + Clone + Drop> {
     // The lock is held as long as this handle is.
     lock: File,
     next: u64,
-    calls: Account,
+    calls: FaultCount,
     ghost bounded: { next ≤ 2 ^ 63 },
 }
 
 impl<R: Files<File = File> + AllocGlobal + Clone + Drop> FolderKeeper<R> {
-    /// Opens a folder, and makes it where it isn't there. A folder that another keeper has is refused untouched. The
-    /// next id is one above the greatest in the folder.
+    /// Opens a folder, and makes it where it isn't there. A folder that another keeper has is refused at once and
+    /// untouched. The next id is one above the greatest in the folder.
     pub fn new(rt: R, alloc: Global, folder: &str) -> Result<FolderKeeper<R>, OpenFault>
         ensures { IfOk result (λ keeper. ⟦<FolderKeeper<R> as Keeper>⟧.faults keeper ≡ none_yet true) }
     {
-        fs::create_dir_all(&rt, folder)?;
-        let lock = lock(&rt, folder)?;
+        let handle = handle_of(&rt, folder)?;
+        if !take_lock(&handle)? {
+            return Err(OpenFault::Locked);
+        }
+        FolderKeeper::over(rt, alloc, folder, handle)
+    }
+
+    // A keeper over the folder whose handle this is, and is locked.
+    fn over(rt: R, alloc: Global, folder: &str, lock: File) -> Result<FolderKeeper<R>, OpenFault>
+        ensures { IfOk result (λ keeper. ⟦<FolderKeeper<R> as Keeper>⟧.faults keeper ≡ none_yet true) }
+    {
         lock.sync_all()?;
         let next = next_in(&rt, folder)?;
         let folder = String::from_str(alloc, folder)?;
-        let calls = Account::new(alloc)?;
+        let calls = FaultCount::new(alloc)?;
         Ok(FolderKeeper {
             rt,
             folder,
@@ -108,14 +125,34 @@ impl<R: Files<File = File> + AllocGlobal + Clone + Drop> FolderKeeper<R> {
     }
 }
 
+impl<R: Files<File = File> + AllocGlobal + Clock + Clone + Drop> FolderKeeper<R> {
+    /// The same, but a folder that another keeper has is refused only after so many seconds in which it had it.
+    pub fn new_within(
+        rt: R,
+        alloc: Global,
+        folder: &str,
+        seconds: u64,
+    ) -> Result<FolderKeeper<R>, OpenFault>
+        ensures { IfOk result (λ keeper. ⟦<FolderKeeper<R> as Keeper>⟧.faults keeper ≡ none_yet true) }
+    {
+        let handle = handle_of(&rt, folder)?;
+        if !take_lock_within(&rt, &handle, seconds)? {
+            return Err(OpenFault::Locked);
+        }
+        FolderKeeper::over(rt, alloc, folder, handle)
+    }
+}
+
 impl<R: Files<File = File> + AllocGlobal + Clone + Drop> FolderKeeper<R> {
     // A new file for the next body.
-    fn begin_body(&self, alloc: Global) -> Result<FolderBody, Trouble>
-        ensures { IfOk result (λ b. (b.number ≡ self.now.next) × (b.len ≡ 0) × (b.writable ≡ true) × (b.calls ≡ none_yet self.now.calls.may_fail)) }
+    fn begin_body(&self, alloc: Global) -> Result<FolderBody, FileFault>
+        ensures number { IfOk result (λ b. b.number ≡ self.now.next) }
+        ensures empty { IfOk result (λ b. b.len ≡ 0) }
+        ensures writable { IfOk result (λ b. b.writable ≡ true) }
+        ensures sound { IfOk result (λ b. is_lost b.data_is ≡ false) }
+        ensures calls { IfOk result (λ b. b.calls ≡ none_yet self.now.calls.may_fail) }
     {
-        let Ok(calls) = self.calls.share() else {
-            return Err(Trouble::NoMemory);
-        };
+        let calls = self.calls.share()?;
         let path = path_in(alloc, self.folder.as_str(), Kind::Body, self.next)?;
         let file = File::create_new(&self.rt, path.as_str())?;
         Ok(FolderBody {
@@ -129,12 +166,13 @@ impl<R: Files<File = File> + AllocGlobal + Clone + Drop> FolderKeeper<R> {
     }
 
     // The file of a body.
-    fn find_body(&self, alloc: Global, id: u64) -> Result<FolderBody, Trouble>
-        ensures { IfOk result (λ b. (b.number ≡ id) × (b.writable ≡ false) × (b.calls ≡ none_yet self.now.calls.may_fail)) }
+    fn find_body(&self, alloc: Global, id: u64) -> Result<FolderBody, FileFault>
+        ensures number { IfOk result (λ b. b.number ≡ id) }
+        ensures sealed { IfOk result (λ b. b.writable ≡ false) }
+        ensures sound { IfOk result (λ b. is_lost b.data_is ≡ false) }
+        ensures calls { IfOk result (λ b. b.calls ≡ none_yet self.now.calls.may_fail) }
     {
-        let Ok(calls) = self.calls.share() else {
-            return Err(Trouble::NoMemory);
-        };
+        let calls = self.calls.share()?;
         let path = path_in(alloc, self.folder.as_str(), Kind::Body, id)?;
         let file = File::open(&self.rt, path.as_str())?;
         let len = file.metadata()?.len();
@@ -149,13 +187,9 @@ impl<R: Files<File = File> + AllocGlobal + Clone + Drop> FolderKeeper<R> {
     }
 
     // The head is written under a name of its own and renamed, so that it is there whole or not at all.
-    fn write_head(&self, alloc: Global, id: u64, bytes: &[u8]) -> Result<(), Trouble> {
-        let Ok(mut draft) = String::from_str(alloc, self.folder.as_str()) else {
-            return Err(Trouble::NoMemory);
-        };
-        let Ok(()) = draft.push_str("/draft") else {
-            return Err(Trouble::NoMemory);
-        };
+    fn write_head(&self, alloc: Global, id: u64, bytes: &[u8]) -> Result<(), FileFault> {
+        let mut draft = String::from_str(alloc, self.folder.as_str())?;
+        draft.push_str("/draft")?;
         let path = path_in(alloc, self.folder.as_str(), Kind::Head, id)?;
         let file = File::create(&self.rt, draft.as_str())?;
         file.write_all_at(bytes, 0)?;
@@ -164,16 +198,16 @@ impl<R: Files<File = File> + AllocGlobal + Clone + Drop> FolderKeeper<R> {
     }
 
     // Removes the file, if it is there.
-    fn remove(&self, alloc: Global, kind: Kind, id: u64) -> Result<(), Trouble> {
+    fn remove(&self, alloc: Global, kind: Kind, id: u64) -> Result<(), FileFault> {
         let path = path_in(alloc, self.folder.as_str(), kind, id)?;
         match fs::remove_file(&self.rt, path.as_str()) {
             Ok(()) => Ok(()),
             Err(error) if error.kind() == ErrorKind::NotFound => Ok(()),
-            Err(error) => Err(Trouble::from(error)),
+            Err(error) => Err(FileFault::from(error)),
         }
     }
 
-    fn heads(&self, alloc: Global) -> Result<Heads, Trouble>
+    fn heads(&self, alloc: Global) -> Result<Heads, FileFault>
         ensures { IfOk result (λ heads. AllBelow self.now.next (keys_of heads)) }
     {
         let heads = heads_in(&self.rt, alloc, self.folder.as_str(), self.next)?;
@@ -181,7 +215,7 @@ impl<R: Files<File = File> + AllocGlobal + Clone + Drop> FolderKeeper<R> {
         Ok(Heads::of(list))
     }
 
-    fn bodies(&self, alloc: Global) -> Result<Ids, Trouble>
+    fn bodies(&self, alloc: Global) -> Result<Ids, FileFault>
         ensures { IfOk result (λ ids. AllBelow self.now.next ids) }
     {
         let bodies = bodies_in(&self.rt, alloc, self.folder.as_str(), self.next)?;
@@ -201,7 +235,7 @@ impl<R: Files<File = File> + AllocGlobal + Clone + Drop> Keeper for FolderKeeper
 
     ghost faults = { λ k. k.calls };
 
-    ghost body_tells = { λ t. t };
+    ghost body_tells = { refl };
 
     ghost bounded = { λ k. k.bounded };
 
@@ -213,14 +247,11 @@ impl<R: Files<File = File> + AllocGlobal + Clone + Drop> Keeper for FolderKeeper
 
     fn create(&mut self, alloc: Global) -> Result<(BodyId, FolderBody), KeepFault<CallSlip>> {
         let number = self.calls.begin();
-        match self.begin_body(alloc) {
-            Ok(body) => {
-                let id = BodyId(self.next);
-                self.next += 1;
-                Ok((id, body))
-            }
-            Err(trouble) => Err(fault(&mut self.calls, number, trouble)),
-        }
+        let done = self.begin_body(alloc);
+        let body = self.calls.answer(number, done)?;
+        let id = BodyId(self.next);
+        self.next += 1;
+        Ok((id, body))
     }
 
     fn seal(
@@ -231,18 +262,17 @@ impl<R: Files<File = File> + AllocGlobal + Clone + Drop> Keeper for FolderKeeper
     ) -> Result<FolderBody, (KeepFault<CallSlip>, FolderBody)> {
         let number = self.calls.begin();
         body.writable = false;
-        match body.settle() {
+        let done = body.make_durable();
+        match self.calls.answer(number, done) {
             Ok(()) => Ok(body),
-            Err(trouble) => Err((fault(&mut self.calls, number, trouble), body)),
+            Err(fault) => Err((fault, body)),
         }
     }
 
     fn fetch_body(&mut self, alloc: Global, id: BodyId) -> Result<FolderBody, KeepFault<CallSlip>> {
         let number = self.calls.begin();
-        match self.find_body(alloc, id.0) {
-            Ok(body) => Ok(body),
-            Err(trouble) => Err(fault(&mut self.calls, number, trouble)),
-        }
+        let done = self.find_body(alloc, id.0);
+        self.calls.answer(number, done)
     }
 
     fn put_head(
@@ -252,51 +282,57 @@ impl<R: Files<File = File> + AllocGlobal + Clone + Drop> Keeper for FolderKeeper
         bytes: &[u8],
     ) -> Result<(), KeepFault<CallSlip>> {
         let number = self.calls.begin();
-        match self.write_head(alloc, id.0, bytes) {
-            Ok(()) => Ok(()),
-            Err(trouble) => Err(fault(&mut self.calls, number, trouble)),
-        }
+        let done = self.write_head(alloc, id.0, bytes);
+        self.calls.answer(number, done)
     }
 
     fn list_heads(&mut self, alloc: Global) -> Result<Heads, KeepFault<CallSlip>> {
         let number = self.calls.begin();
-        match self.heads(alloc) {
-            Ok(heads) => Ok(heads),
-            Err(trouble) => Err(fault(&mut self.calls, number, trouble)),
-        }
+        let done = self.heads(alloc);
+        self.calls.answer(number, done)
     }
 
     fn list_bodies(&mut self, alloc: Global) -> Result<Ids, KeepFault<CallSlip>> {
         let number = self.calls.begin();
-        match self.bodies(alloc) {
-            Ok(ids) => Ok(ids),
-            Err(trouble) => Err(fault(&mut self.calls, number, trouble)),
-        }
+        let done = self.bodies(alloc);
+        self.calls.answer(number, done)
     }
 
     fn remove_head(&mut self, alloc: Global, id: BodyId) -> Result<(), KeepFault<CallSlip>> {
         let number = self.calls.begin();
-        match self.remove(alloc, Kind::Head, id.0) {
-            Ok(()) => Ok(()),
-            Err(trouble) => Err(fault(&mut self.calls, number, trouble)),
-        }
+        let done = self.remove(alloc, Kind::Head, id.0);
+        self.calls.answer(number, done)
     }
 
     fn remove_body(&mut self, alloc: Global, id: BodyId) -> Result<(), KeepFault<CallSlip>> {
         let number = self.calls.begin();
-        match self.remove(alloc, Kind::Body, id.0) {
-            Ok(()) => Ok(()),
-            Err(trouble) => Err(fault(&mut self.calls, number, trouble)),
-        }
+        let done = self.remove(alloc, Kind::Body, id.0);
+        self.calls.answer(number, done)
     }
 }
 
-// The folder's own handle, with a lock that no other handle has.
-fn lock(rt: &impl Files<File = File>, folder: &str) -> Result<File, OpenFault> {
-    let handle = File::open(rt, folder)?;
+// The folder's own handle. The folder is made where it isn't there.
+fn handle_of(rt: &impl Files<File = File>, folder: &str) -> io::Result<File> {
+    fs::create_dir_all(rt, folder)?;
+    File::open(rt, folder)
+}
+
+// Takes the lock that no other handle has. Whether it is there.
+fn take_lock(handle: &File) -> io::Result<bool> {
     match handle.try_lock() {
-        Ok(()) => Ok(handle),
-        Err(TryLockError::WouldBlock) => Err(OpenFault::Locked),
-        Err(TryLockError::Error(error)) => Err(OpenFault::from(error)),
+        Ok(()) => Ok(true),
+        Err(TryLockError::WouldBlock) => Ok(false),
+        Err(TryLockError::Error(error)) => Err(error),
     }
+}
+
+// The same, as soon as it is free within so many seconds.
+fn take_lock_within(clock: &impl Clock, handle: &File, seconds: u64) -> io::Result<bool> {
+    for _ in 0..seconds.saturating_mul(ASKS_PER_SECOND) {
+        if take_lock(handle)? {
+            return Ok(true);
+        }
+        thread::sleep(clock, Duration::from_millis(1000 / ASKS_PER_SECOND));
+    }
+    take_lock(handle)
 }

@@ -5,10 +5,9 @@
 ghost use Rattle.std.specs.Prelude.{◌≡◌, ◌+◌, ◌<◌, ◌≤◌, ◌^◌, IfOk, IfSome, max};
 ghost use Rattle.acng_keeper.specs.Kept.{IdsBelow};
 
+use crate::id_map::IdMap;
 use crate::names::{Kind, id_of};
-use crate::shelf::Shelf;
-use crate::trouble::Trouble;
-use acng_base::Text;
+use acng_base::{FileFault, Text, named};
 use std::alloc::Global;
 use std::fs;
 use std::fs::File;
@@ -19,12 +18,14 @@ use std::rt::Files;
 pub(crate) fn next_in<R: Files<File = File> + AllocGlobal + Clone + Drop>(
     rt: &R,
     folder: &str,
-) -> Result<u64, Trouble>
+) -> Result<u64, FileFault>
     ensures { IfOk result (λ next. next ≤ 2 ^ 63) }
 {
     let mut next = 0;
     for entry in fs::read_dir(rt, folder)? {
-        let entry = entry?;
+        let Some(entry) = named(entry)? else {
+            continue;
+        };
         if let Some(id) = any_id(entry.file_name()) {
             next = above(next, id);
         }
@@ -56,12 +57,14 @@ pub(crate) fn heads_in<R: Files<File = File> + AllocGlobal + Clone + Drop>(
     alloc: Global,
     folder: &str,
     next: u64,
-) -> Result<Shelf<Text>, Trouble>
+) -> Result<IdMap<Text>, FileFault>
     ensures { IfOk result (λ heads. IdsBelow next heads) }
 {
-    let mut heads = Shelf::new(alloc);
+    let mut heads = IdMap::new(alloc);
     for entry in fs::read_dir(rt, folder)? {
-        let entry = entry?;
+        let Some(entry) = named(entry)? else {
+            continue;
+        };
         if let Some(id) = id_below(Kind::Head, entry.file_name(), next) {
             let file = File::open(rt, entry.path())?;
             heads.put(id, whole(alloc, &file)?)?;
@@ -76,12 +79,14 @@ pub(crate) fn bodies_in<R: Files<File = File> + AllocGlobal + Clone + Drop>(
     alloc: Global,
     folder: &str,
     next: u64,
-) -> Result<Shelf<()>, Trouble>
+) -> Result<IdMap<()>, FileFault>
     ensures { IfOk result (λ bodies. IdsBelow next bodies) }
 {
-    let mut bodies = Shelf::new(alloc);
+    let mut bodies = IdMap::new(alloc);
     for entry in fs::read_dir(rt, folder)? {
-        let entry = entry?;
+        let Some(entry) = named(entry)? else {
+            continue;
+        };
         if let Some(id) = id_below(Kind::Body, entry.file_name(), next) {
             bodies.put(id, ())?;
         }
@@ -98,7 +103,7 @@ fn id_below(kind: Kind, name: &str, next: u64) -> Option<u64>
 }
 
 // All bytes of a head's file.
-fn whole(alloc: Global, file: &File) -> Result<Text, Trouble> {
+fn whole(alloc: Global, file: &File) -> Result<Text, FileFault> {
     let mut bytes = Vec::new(alloc);
     let mut buf = [0u8; 4096];
     for _ in 0..u64::MAX {

@@ -4,28 +4,27 @@
 //! tests, with calls that fail on demand, and `FolderKeeper` its form over a plain folder.
 #![tactic(auto)]
 
-pub mod body;
-pub mod calls;
-pub mod effect;
-pub mod folder;
-pub mod folder_file;
+mod body;
+mod calls;
+mod effect;
+mod folder;
+mod folder_file;
 mod folder_scan;
-pub mod keeper;
-pub mod lists;
-pub mod memory;
+mod id_map;
+mod keeper;
+mod law;
+mod lists;
+mod memory;
 mod names;
-mod shelf;
-pub mod slip;
-#[cfg(test)]
-mod tests;
-mod trouble;
+mod slip;
 
 pub use body::{BodyFile, BodyId};
 pub use calls::CallSlip;
 pub use effect::Effect;
-pub use folder::{FolderKeeper, OpenFault};
+pub use folder::{FolderKeeper, LOCK_SECONDS, OpenFault};
 pub use folder_file::FolderBody;
 pub use keeper::{Keeper, SlipOf};
+pub use law::images_are_apart;
 pub use lists::{Heads, Ids};
 pub use memory::{MemoryBody, MemoryKeeper};
 pub use slip::{KeepFault, KeeperSlip};

@@ -29,21 +29,11 @@ impl Kind {
 pub fn path_in(alloc: Global, folder: &str, kind: Kind, id: u64) -> Result<String, NoMemory>
     ensures { IfOk result (λ path. string_bytes path ≡ (folder.now ++ 47 ∷ []) ++ name_of kind id) }
 {
-    let Ok(digits) = hex::encode(alloc, id.to_be_bytes()) else {
-        return Err(NoMemory);
-    };
-    let Ok(mut path) = String::from_str(alloc, folder) else {
-        return Err(NoMemory);
-    };
-    let Ok(()) = path.push_str("/") else {
-        return Err(NoMemory);
-    };
-    let Ok(()) = path.push_str(kind.prefix()) else {
-        return Err(NoMemory);
-    };
-    let Ok(()) = path.push_str(digits.as_str()) else {
-        return Err(NoMemory);
-    };
+    let digits = hex::encode(alloc, id.to_be_bytes())?;
+    let mut path = String::from_str(alloc, folder)?;
+    path.push_str("/")?;
+    path.push_str(kind.prefix())?;
+    path.push_str(digits.as_str())?;
     Ok(path)
 }
 

@@ -1,8 +1,12 @@
 //! Why a call of a keeper or of one of its bodies was refused.
 //!
-//! A slip says that the call failed. Only the failed call hands it out: it has no public constructor, and generic code
+//! A slip says that the call failed. Only a failed call hands it out: it has no public constructor, and generic code
 //! can neither copy it nor raise the count that it comes with, so an answer with a slip always has a failed call.
 ghost use Rattle.std.specs.Prelude.{◌≡◌, ℕ};
+ghost use Rattle.acng_keeper.specs.declared.slip.KeepFault.TheVariants.{NoMemory as no_memory};
+
+use acng_base::NoMemory;
+use std::alloc::AllocError;
 
 /// That a call failed.
 pub trait KeeperSlip: Drop {
@@ -21,4 +25,20 @@ pub enum KeepFault<P> {
     Slip(P),
     /// Memory was refused.
     NoMemory,
+}
+
+impl<P> From<NoMemory> for KeepFault<P> {
+    ghost from_gives = { λ _ fault. fault ≡ no_memory };
+
+    fn from(_: NoMemory) -> KeepFault<P> {
+        KeepFault::NoMemory
+    }
+}
+
+impl<P> From<AllocError> for KeepFault<P> {
+    ghost from_gives = { λ _ fault. fault ≡ no_memory };
+
+    fn from(_: AllocError) -> KeepFault<P> {
+        KeepFault::NoMemory
+    }
 }

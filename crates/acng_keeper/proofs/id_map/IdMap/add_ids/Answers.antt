@@ -2,7 +2,7 @@ use Rattle.std.proofs.Common.{◌≡◌, ◌∙◌, rules}
 use Rattle.std.specs.Map.Iter.{deref_pair}
 use Rattle.std.proofs.lemmas.Map.Iter.{rest_more, rest_all}
 use Rattle.acng_keeper.proofs.Listed.{moved_id, none_left, all_left}
-use Rattle.acng_keeper.proofs.shelf.Shelf.add_ids.Goals as goal
+use Rattle.acng_keeper.proofs.id_map.IdMap.add_ids.Goals as goal
 
 pub loop-entry-preserved : goal.loop-entry-preserved
 loop-entry-preserved g c = λ q.

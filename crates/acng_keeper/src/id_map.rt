@@ -14,11 +14,11 @@ use std::marker::Model;
 
 /// A map from ids.
 #[derive(Drop)]
-pub struct Shelf<V> {
+pub struct IdMap<V> {
     rows: BTreeMap<u64, V>,
 }
 
-impl<V> Model for Shelf<V> {
+impl<V> Model for IdMap<V> {
     ghost use Rattle.std.specs.Coded.{coded_ℕ};
     ghost use Rattle.std.specs.FinMap as map;
     ghost use Rattle.std.specs.Ordering.{nat_cmp};
@@ -30,11 +30,11 @@ impl<V> Model for Shelf<V> {
     ghost view = { λ s. map.from_entries s.rows.entries };
 }
 
-impl<V: Drop> Shelf<V> {
-    pub fn new(alloc: Global) -> Shelf<V>
+impl<V: Drop> IdMap<V> {
+    pub fn new(alloc: Global) -> IdMap<V>
         ensures { result ≡ map.empty }
     {
-        Shelf {
+        IdMap {
             rows: BTreeMap::new(alloc),
         }
     }
@@ -76,7 +76,7 @@ impl<V: Drop> Shelf<V> {
     }
 
     /// Puts each id of this map into the other.
-    pub fn add_ids(&self, all: &mut Shelf<()>) -> Result<(), NoMemory>
+    pub fn add_ids(&self, all: &mut IdMap<()>) -> Result<(), NoMemory>
         ensures { OnOk result ((id : ℕ) → map.contains_key all.new id ≡ (map.contains_key all.old id || map.contains_key self.now id)) }
     {
         for entry in self.rows.iter() {
@@ -120,7 +120,7 @@ fn entries<V: Drop>(alloc: Global, rows: BTreeMap<u64, V>) -> Result<Vec<(u64, V
     Ok(rows.into_iter().collect(alloc)?)
 }
 
-impl Shelf<Text> {
+impl IdMap<Text> {
     /// A copy of all entries, in rising order of ids.
     pub fn list(&self, alloc: Global) -> Result<Vec<(u64, Text)>, NoMemory>
         ensures same { IfOk result (λ list. map.from_entries {R = nat_cmp} list.items ≡ self.now) }

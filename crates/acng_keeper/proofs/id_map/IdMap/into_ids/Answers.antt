@@ -2,7 +2,7 @@ use Rattle.std.proofs.Common.{◌∙◌, ap, ◌==◌}
 use Rattle.std.specs.List.{list_any}
 use Rattle.std.specs.FinMap.{contains_key}
 use Rattle.acng_keeper.proofs.Listed.{list_any-keys}
-use Rattle.acng_keeper.proofs.shelf.Shelf.into_ids.Goals as goal
+use Rattle.acng_keeper.proofs.id_map.IdMap.into_ids.Goals as goal
 
 pub returns-clause-same : goal.returns-clause-same
 returns-clause-same g c = λ id.
