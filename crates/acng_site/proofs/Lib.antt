@@ -2,3 +2,4 @@ mod HonestRows
 mod HonestWitness
 mod Joins
 mod NextBytes
+mod Resolves

@@ -65,7 +65,7 @@ fn http_url(alloc: Global, text: &[u8]) -> Result<Url, UrlFault>
 }
 
 // Whether the host is an IPv6 literal, which isn't dialed.
-fn has_literal(url: &Url) -> bool
+pub(crate) fn has_literal(url: &Url) -> bool
     ensures { result ≡ is_literal url.now.host }
 {
     matches!(url.host(), Some(Host::Ipv6(_)))
