@@ -1,3 +1,5 @@
+pub mod BlockLines
+pub mod Buffered
 pub mod Cutting
 pub mod Digits
 mod Endings
@@ -9,5 +11,5 @@ pub mod Scans
 pub mod Searches
 mod Segments
 pub mod Trims
-pub mod Writes
 pub mod WordSteps
+pub mod Writes

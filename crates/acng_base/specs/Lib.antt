@@ -1,4 +1,5 @@
 pub mod Answers
+pub mod Buffers
 pub mod Causes
 pub mod Cuts
 pub mod Heads

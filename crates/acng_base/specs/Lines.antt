@@ -1,6 +1,6 @@
--- Lines, and the blocks of lines that end at an empty one.
+-- Lines, and the blocks of lines that end at an empty one (RFC 9112, section 2.2).
 use Rattle.std.specs.Prelude.{◌≡◌, ◌<◌, ◌≤◌, length, ℕ, ◌+◌, List, [], ◌∷◌, Option, Some, None, option_map, option_and_then, ◌==◌, cond}
-use Rattle.httparse.specs.Grammar.{LineEnd, crlf, lf}
+use Rattle.httparse.specs.Grammar.{LineEnd, crlf, lf, print_end}
 use Rattle.acng_base.specs.declared.block.Scan.{Scan}
 use Rattle.acng_base.specs.declared.block.Scan.TheVariants.{End, Incomplete}
 use Rattle.acng_base.specs.declared.block.LineState.{LineState}
@@ -17,6 +17,37 @@ with_byte b ((c ∷ line, e) ∷ ls) = (b ∷ c ∷ line, e) ∷ ls
 abbrev pub lines : List ℕ → List (List ℕ × LineEnd)
 lines [] = []
 lines (b ∷ bs) = cond (b == 10) (([], lf) ∷ lines bs) (with_byte b (lines bs))
+
+-- the bytes of a line and of its end
+abbrev pub line_len : List ℕ × LineEnd → ℕ
+line_len l = length l.0 + length (print_end l.1)
+
+-- the bytes through the first empty line; None where there is none
+abbrev pub through_empty : List (List ℕ × LineEnd) → Option ℕ
+through_empty [] = None
+through_empty (([], e) ∷ ls) = Some (line_len ([], e))
+through_empty ((b ∷ line, e) ∷ ls) = option_map (λ n. line_len (b ∷ line, e) + n) (through_empty ls)
+
+-- the bytes through the first empty line after one that isn't empty; None where there is none
+abbrev pub through_head : List (List ℕ × LineEnd) → Option ℕ
+through_head [] = None
+through_head (([], e) ∷ ls) = option_map (λ n. line_len ([], e) + n) (through_head ls)
+through_head ((b ∷ line, e) ∷ ls) = option_map (λ n. line_len (b ∷ line, e) + n) (through_empty ls)
+
+-- how many bytes of the text belong to its head; None where the head doesn't end in the text
+abbrev pub head_block_len : List ℕ → Option ℕ
+head_block_len text = through_head (lines text)
+
+-- how many bytes of the text belong to its section of lines, as the trailers of a chunked body
+abbrev pub section_len : List ℕ → Option ℕ
+section_len text = through_empty (lines text)
+
+-- an end was found where the text has one
+abbrev pub FindsEnd : Option ℕ → Scan → Type 0
+FindsEnd len (End n) = len ≡ Some n
+FindsEnd len (Incomplete state) = len ≡ None
+
+-- ---- the same a byte at a time, as proofs use it
 
 -- after one more byte; None where that byte ends the block
 abbrev pub after_byte : LineState → ℕ → Option LineState

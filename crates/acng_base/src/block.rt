@@ -4,7 +4,7 @@
 //! first empty line after a line that isn't empty. A scan goes on from the state where an earlier one stopped, so each
 //! byte is looked at once, in any cutting.
 ghost use Rattle.std.specs.Prelude.{◌≡◌, ◌+◌, ◌<◌, ◌≤◌, Some, None, length};
-ghost use Rattle.acng_base.specs.Lines.{after_byte, Scans};
+ghost use Rattle.acng_base.specs.Lines.{after_byte, head_block_len, section_len, FindsEnd, Scans};
 
 /// Where a text stands in a block of lines: before its first line that isn't empty, inside a line, or between two
 /// lines; and whether a CR stood at the front of the line at hand.
@@ -26,9 +26,19 @@ pub enum Scan {
     Incomplete(LineState),
 }
 
-/// Looks for the end of the block in the next bytes of its text.
-#[tactic(auto, using(crate::proofs::Scans::scan_more, crate::proofs::Scans::scan_ends))]
+/// Looks for the end of the block in the next bytes of its text: from `Before`, through the first empty line after one
+/// that isn't empty; from `Between`, through the first empty line.
+#[tactic(auto, using(crate::proofs::BlockLines::head_from, crate::proofs::BlockLines::section_from))]
 pub fn scan_block(state: LineState, part: &[u8]) -> Scan
+    ensures scans { Scans state part.now result }
+    ensures head { state ≡ LineState.Before → FindsEnd (head_block_len part.now) result }
+    ensures section { state ≡ LineState.Between → FindsEnd (section_len part.now) result }
+{
+    scan_bytes(state, part)
+}
+
+#[tactic(auto, using(crate::proofs::Scans::scan_more, crate::proofs::Scans::scan_ends))]
+fn scan_bytes(state: LineState, part: &[u8]) -> Scan
     ensures { Scans state part.now result }
 {
     let mut now = state;

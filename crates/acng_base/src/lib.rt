@@ -7,6 +7,7 @@
 #![tactic(auto)]
 
 mod block;
+mod buffer;
 mod bytes;
 mod clock;
 mod fault;
@@ -24,6 +25,7 @@ mod tag;
 mod text;
 
 pub use block::{LineState, Scan, scan_block};
+pub use buffer::{ByLink, Reads, Unread};
 pub use bytes::{copy_at_most, copy_front, find_byte, first_bytes};
 pub use clock::{Clock, FixedClock, HostClock, Moment};
 pub use fault::{Failed, NoMemory};
