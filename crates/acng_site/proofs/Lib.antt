@@ -2,4 +2,5 @@ mod HonestRows
 mod HonestWitness
 mod Joins
 mod NextBytes
+mod PlaceRows
 mod Resolves

@@ -14,6 +14,7 @@ use crate::origin::{Dial, Origin};
 use crate::request::{Request, UrlFault};
 use crate::site::{Right, Site, Try, Untold};
 use crate::slip::AttemptSlip;
+use acng_base::{Source, StdSource};
 use std::alloc::Global;
 use std::io;
 use std::io::{Read, Write};
@@ -33,13 +34,13 @@ const HTTP_PORT: u16 = 80;
 
 /// The connection of an attempt over TCP.
 #[derive(Drop)]
-pub struct NetConn<T> {
+pub struct NetConn<T: Read + Drop> {
     number: u64,
     ask: Snapshot<Ask>,
-    stream: T,
+    stream: StdSource<T>,
 }
 
-impl<T> NetConn<T> {
+impl<T: Read + Drop> NetConn<T> {
     // The connection over a stream that the request was written to.
     pub(crate) fn over(stream: T, number: u64, ask: &Ask) -> NetConn<T>
         ensures number { result.number ≡ number }
@@ -48,7 +49,7 @@ impl<T> NetConn<T> {
         NetConn {
             number,
             ask: Snapshot::of(ask),
-            stream,
+            stream: StdSource::new(stream),
         }
     }
 }
@@ -76,7 +77,8 @@ impl<T: Read + Drop> Conn for NetConn<T> {
             × (⟦<AttemptSlip as OriginSlip>⟧.ask s ≡ self.old.ask.value)) }
         ensures number { self.new.number ≡ self.old.number }
         ensures ask { self.new.ask.value ≡ self.old.ask.value }
-        ensures passes_on { ReadConsumes (T.remaining self.old.stream) (T.remaining self.new.stream) result buf.new }
+        ensures passes_on { ReadConsumes (⟦<StdSource<T> as Source>⟧.left self.old.stream)
+            (⟦<StdSource<T> as Source>⟧.left self.new.stream) result buf.new }
     {
         match self.stream.read(buf) {
             Ok(count) => Ok(count),
