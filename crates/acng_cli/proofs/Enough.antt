@@ -5,7 +5,7 @@ use Rattle.std.proofs.lemmas.List.{take-append-le}
 use Rattle.std.specs.Io.KnownBytes.{Consumes}
 use Rattle.acng_conf.specs.Readings.{reading, after_lines, and_then, finished}
 use Rattle.acng_conf.specs.Settings.{defaults}
-use Rattle.acng_conf.specs.Cuts.{pieces}
+use Rattle.acng_base.specs.Cuts.{pieces}
 use Rattle.acng_conf.specs.declared.fault.ListFile.{ListFile}
 use Rattle.acng_cli.specs.declared.said.Said.{Said}
 use Rattle.acng_cli.specs.Maint.{IsEnough, of_conf}

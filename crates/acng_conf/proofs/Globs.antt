@@ -2,9 +2,9 @@
 use Rattle.std.proofs.Common.{◌≡◌, ◌≢◌, ℕ, ◌+◌, ◌<◌, Bool, true, false, ◌||◌, ◌&&◌, ◌==◌, List, [], ◌∷◌, length, drop, get_or, cond, refl, sym, ap, ◌∙◌}
 use Rattle.std.proofs.lemmas.Bool.{eqb-true, eq-eqb, ne_eqb}
 use Rattle.std.proofs.lemmas.List.{drop-drop}
-use Rattle.acng_conf.specs.Cuts.{begins_with}
+use Rattle.acng_conf.specs.Lines.{first_is}
 use Rattle.acng_conf.specs.Globs.{some_end, one_byte, fits}
-use Rattle.acng_conf.proofs.Rows.{row}
+use Rattle.acng_conf.proofs.Walks.{row}
 
 or_from : (a b : Bool) → (b ≡ true → a ≡ true) → (a || b) ≡ a
 or_from true b h = refl
@@ -71,7 +71,7 @@ later_byte pattern name i in_pattern no_star h =
     let byte : some_end (one_byte f b) ends ≡ true = ap (λ t. some_end (λ n. cond t (some_end f n) (one_byte f b n)) ends) (sym other) ∙ first in
     ap (some_end f) (sym (drop-drop 1 (i + 1) name)) ∙ behind_byte f b ends byte
 
-pub star_first : (text : List ℕ) → begins_with 42 text ≡ true → text ≡ 42 ∷ drop 1 text
+pub star_first : (text : List ℕ) → first_is 42 text ≡ true → text ≡ 42 ∷ drop 1 text
 star_first [] h = cc
 star_first (c ∷ cs) h = ap (λ b. b ∷ cs) (eqb-true c 42 h)
 
@@ -85,7 +85,7 @@ star_end pattern name r k star h =
 -- a star further on takes what an earlier one could take
 pub past_star : (pattern name behind : List ℕ) (k : ℕ) → fits pattern name ≡ fits (drop k pattern) (drop k name)
     → (some_end (fits pattern) (drop 1 name) ≡ true → some_end (fits (drop k pattern)) (drop (k + 1) name) ≡ true)
-    → drop k pattern ≡ behind → begins_with 42 behind ≡ true → some_end (fits pattern) name ≡ some_end (fits (drop 1 behind)) (drop k name)
+    → drop k pattern ≡ behind → first_is 42 behind ≡ true → some_end (fits pattern) name ≡ some_end (fits (drop 1 behind)) (drop k name)
 past_star pattern name behind k same later rest star =
     let s = rest ∙ star_first behind star in
     let r = drop 1 behind in

@@ -1,12 +1,12 @@
-mod Cutting
-pub mod Digits
+mod Bounds
+mod Comments
 mod Escapes
 mod Globs
-mod Lines
+mod LineSteps
 mod Names
 mod Owners
 pub mod Patterns
 mod Plain
 mod Rows
-mod Trims
-mod Words
+mod Schemes
+mod Walks

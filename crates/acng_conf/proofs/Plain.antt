@@ -2,10 +2,10 @@
 use Rattle.std.proofs.Common.{◌≡◌, ℕ, Bool, true, false, not, List, [], ◌∷◌, ◌++◌, cond, map, refl, ap, ◌∙◌}
 use Rattle.std.specs.List.{filter, concat}
 use Rattle.acng_base.specs.Paths.{is_slash, segments}
-use Rattle.acng_conf.specs.Cuts.{is_empty}
+use Rattle.acng_base.specs.Cuts.{is_empty}
 use Rattle.acng_conf.specs.Places.{without_empty}
-use Rattle.acng_conf.proofs.Cutting.{some_piece}
-use Rattle.acng_conf.proofs.Trims.{not_empty}
+use Rattle.acng_base.proofs.Cutting.{some_piece}
+use Rattle.acng_conf.proofs.Comments.{not_empty}
 
 -- the walk: each slash goes, and one comes before the first byte of a segment; the first argument says whether a segment
 -- is yet to begin

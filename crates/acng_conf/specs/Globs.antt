@@ -1,6 +1,7 @@
 -- Which names fit a pattern, in which `*` stands for any bytes.
 use Rattle.std.specs.Prelude.{ℕ, Bool, false, ◌&&◌, ◌||◌, ◌==◌, List, [], ◌∷◌, cond}
-use Rattle.acng_conf.specs.Cuts.{is_empty}
+use Rattle.acng_base.specs.Cuts.{is_empty}
+use Rattle.acng_conf.specs.Lines.{star}
 
 -- the rest fits some end of the name
 abbrev pub some_end : (List ℕ → Bool) → List ℕ → Bool
@@ -14,4 +15,4 @@ one_byte rest b (c ∷ cs) = (c == b) && rest cs
 
 abbrev pub fits : List ℕ → List ℕ → Bool
 fits [] name = is_empty name
-fits (b ∷ bs) name = cond (b == 42) (some_end (λ n. fits bs n) name) (one_byte (λ n. fits bs n) b name)
+fits (b ∷ bs) name = cond (b == star) (some_end (λ n. fits bs n) name) (one_byte (λ n. fits bs n) b name)

@@ -1,6 +1,7 @@
-pub mod Cuts
+pub mod Bounds
 pub mod Globs
 pub mod Keys
+pub mod Lines
 pub mod LookUps
 pub mod Numbers
 pub mod Places

@@ -11,7 +11,8 @@ use Rattle.url.specs.Host.{host_text}
 use Rattle.url.specs.declared.host.Host.{Host}
 use Rattle.url.specs.declared.host.Host.TheVariants.{Domain, Ipv4, Ipv6}
 use Rattle.acng_base.specs.Paths.{path_refusal, is_slash}
-use Rattle.acng_conf.specs.Cuts.{is_empty, begins_with}
+use Rattle.acng_base.specs.Cuts.{slash, colon, is_empty}
+use Rattle.acng_conf.specs.Lines.{first_is}
 use Rattle.acng_conf.specs.declared.place.Section.{Section}
 use Rattle.acng_conf.specs.declared.place.Section.TheVariants.{Merging, Targets}
 
@@ -19,7 +20,7 @@ use Rattle.acng_conf.specs.declared.place.Section.TheVariants.{Merging, Targets}
 
 -- without its empty segments: a slash before each segment
 abbrev pub without_empty : List ℕ → List ℕ
-without_empty path = concat (map (λ s. 47 ∷ s) (filter (λ s. not (is_empty s)) (slice_split is_slash path)))
+without_empty path = concat (map (λ s. slash ∷ s) (filter (λ s. not (is_empty s)) (slice_split is_slash path)))
 
 -- the bytes that a path stands for, without empty segments
 abbrev pub plain_path : List ℕ → List ℕ
@@ -80,7 +81,7 @@ host_and_port url = host_text (host_or_empty url) ++ option_port url.port
   where
     option_port : Option ℕ → List ℕ
     option_port None = []
-    option_port (Some n) = 58 ∷ decimal n
+    option_port (Some n) = colon ∷ decimal n
 
 -- ---- entries
 
@@ -103,5 +104,5 @@ prefix_entry word = let path = plain_path word in cond (is_path path) (Some path
 
 -- the entry that a word of a line writes: a prefix only where places merge
 abbrev pub entry_of : Section → List ℕ → Option (List ℕ)
-entry_of Merging word = cond (begins_with 47 word) (prefix_entry word) (url_entry Merging word)
+entry_of Merging word = cond (first_is slash word) (prefix_entry word) (url_entry Merging word)
 entry_of Targets word = url_entry Targets word

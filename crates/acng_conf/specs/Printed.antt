@@ -1,5 +1,6 @@
 -- The text of `check-conf`.
 use Rattle.std.specs.Prelude.{ℕ, List, [], ◌∷◌, ◌++◌, codes, decimal, length}
+use Rattle.acng_base.specs.Cuts.{line_feed}
 use Rattle.acng_conf.specs.Settings.{Settings}
 use Rattle.acng_conf.specs.declared.fault.ConfCause.{ConfCause}
 use Rattle.acng_conf.specs.declared.fault.ConfCause.TheVariants as refused
@@ -31,7 +32,7 @@ cause_word refused.TooMany = codes "TooMany"
 
 -- `warning line L: CAUSE`
 abbrev pub warning_line : Warning → List ℕ
-warning_line w = codes "warning line " ++ decimal w.line ++ codes ": " ++ warn_word w.cause ++ 10 ∷ []
+warning_line w = codes "warning line " ++ decimal w.line ++ codes ": " ++ warn_word w.cause ++ line_feed ∷ []
 
 abbrev pub warning_lines : List Warning → List ℕ
 warning_lines [] = []
@@ -40,8 +41,9 @@ warning_lines (w ∷ ws) = warning_line w ++ warning_lines ws
 -- `ok groups G warnings W`, and a line for each warning
 abbrev pub printed : Settings → List ℕ
 printed s =
-    codes "ok groups " ++ decimal (length s.groups) ++ codes " warnings " ++ decimal (length s.warnings) ++ 10 ∷ [] ++ warning_lines s.warnings
+    codes "ok groups " ++ decimal (length s.groups) ++ codes " warnings " ++ decimal (length s.warnings) ++ line_feed ∷ []
+    ++ warning_lines s.warnings
 
 -- `line L: CAUSE`
 abbrev pub fault_line : ConfFault → List ℕ
-fault_line fault = codes "line " ++ decimal fault.line ++ codes ": " ++ cause_word fault.cause ++ 10 ∷ []
+fault_line fault = codes "line " ++ decimal fault.line ++ codes ": " ++ cause_word fault.cause ++ line_feed ∷ []

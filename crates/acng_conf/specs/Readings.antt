@@ -5,20 +5,23 @@ use Rattle.std.specs.Option.{option_map_or}
 use Rattle.std.specs.Str.{is_utf8}
 use Rattle.regex_syntax.specs.Grammar.{read}
 use Rattle.regex.specs.Patterns.{default_config}
-use Rattle.acng_conf.specs.Cuts.{begins_with, trim, without_cr, without_comment, is_skipped, pieces, words}
+use Rattle.acng_base.specs.Cuts.{slash, colon, trim, without_cr, pieces, words}
+use Rattle.acng_conf.specs.Lines.{first_is, without_comment, is_skipped}
 use Rattle.acng_conf.specs.Keys.{is_key, is_page, is_group_name, key_of, group_name}
-use Rattle.acng_conf.specs.Numbers.{number_of}
-use Rattle.acng_conf.specs.Remaps.{Work, work_of, first_section}
-use Rattle.acng_conf.specs.Settings.{Mirrors, Settings, defaults}
+use Rattle.acng_conf.specs.Numbers.{number_within}
+use Rattle.acng_conf.specs.Remaps.{RemapLine, line_of, first_section}
+use Rattle.acng_conf.specs.Settings.{Mirrors, Settings, defaults, most_text, most_line, most_groups, most_entries}
 use Rattle.acng_conf.specs.declared.fault.ConfCause.{ConfCause}
 use Rattle.acng_conf.specs.declared.fault.ConfCause.TheVariants.{NoMemory, NotALine, BadNumber, BadUrl, BadPattern, NoMerge, TwiceMerged, TooLong, TooMany}
 use Rattle.acng_conf.specs.declared.fault.ConfFault.{ConfFault}
 use Rattle.acng_conf.specs.declared.fault.ListFile.{ListFile}
 use Rattle.acng_conf.specs.declared.fault.WarnCause.{WarnCause}
-use Rattle.acng_conf.specs.declared.fault.WarnCause.TheVariants.{Unused, NoTarget, ExtraBind}
+use Rattle.acng_conf.specs.declared.fault.WarnCause.TheVariants.{Unused as UnusedKey, NoTarget, ExtraBind}
 use Rattle.acng_conf.specs.declared.fault.Warning.{Warning}
 use Rattle.acng_conf.specs.declared.key.Key.{Key}
-use Rattle.acng_conf.specs.declared.key.Key.TheVariants.{Port, BindAddress, ReportPage, ExThreshold, ExAbortOnProblems, Offlinemode, FreshIndexMaxAge, RedirMax, MaintOverHttp, PfilePatternEx, VfilePatternEx, Remap, Other}
+use Rattle.acng_conf.specs.declared.key.Key.TheVariants.{Setting as OneSetting, Group, Unused}
+use Rattle.acng_conf.specs.declared.key.Setting.{Setting}
+use Rattle.acng_conf.specs.declared.key.Setting.TheVariants.{Port, BindAddress, ReportPage, ExThreshold, ExAbortOnProblems, Offlinemode, FreshIndexMaxAge, RedirMax, MaintOverHttp, PfilePatternEx, VfilePatternEx}
 
 -- the settings after a line, or why the line is refused
 abbrev pub Step : Type 0
@@ -45,6 +48,10 @@ abbrev pub with_warning : ℕ → WarnCause → Settings → Settings
 with_warning n cause s = record s { warnings = s.warnings ++ record { line = n; cause = cause } ∷ [] }
 
 -- ---- plain keys
+
+-- a setting's number has at most 9 digits
+abbrev pub setting_number : ℕ → ℕ → List ℕ → Option ℕ
+setting_number low high value = number_within 9 low high value
 
 abbrev pub with_number : Option ℕ → (ℕ → Settings) → Step
 with_number None f = Err BadNumber
@@ -102,7 +109,7 @@ with_place entry g = record g { merging = g.merging ++ entry ∷ [] }
 abbrev pub with_targets : List (List ℕ) → Mirrors → Mirrors
 with_targets targets g = record g { targets = g.targets ++ targets }
 
--- the groups with the one at a place changed
+-- the groups with the one of this number changed
 abbrev pub change : (Mirrors → Mirrors) → ℕ → Settings → Settings
 change f k s = record s { groups = set s.groups k (f (slice_index_or s.groups k (new_group [] 0))) }
 
@@ -131,27 +138,28 @@ abbrev pub merge_all : ℕ → Settings → List (List ℕ) → Step
 merge_all k s [] = Ok s
 merge_all k s (e ∷ es) = and_then (merge k s e) (λ t. merge_all k t es)
 
--- more than 256 groups or 20,000 entries
+-- there are more groups or entries than a configuration may have
 abbrev pub is_too_many : Settings → Bool
-is_too_many s = nat_lt 256 (length s.groups) || nat_lt 20000 s.entries
+is_too_many s = nat_lt most_groups (length s.groups) || nat_lt most_entries s.entries
 
 abbrev pub within_limits : Settings → Step
 within_limits s = cond (is_too_many s) (Err TooMany) (Ok s)
 
-abbrev pub after_merging : ℕ → ℕ → Work → Settings → Step
+abbrev pub after_merging : ℕ → ℕ → RemapLine → Settings → Step
 after_merging n k w s = within_limits (with_warnings n w.causes (change (with_targets w.targets) k s))
 
--- what a line brings, added to the group at a place
-abbrev pub add_work : ℕ → ℕ → Settings → List (List ℕ) → Option Work → Step
-add_work n k s ws None = Err BadUrl
-add_work n k s ws (Some w) = cond (length (first_section ws) == 0) (Err NoMerge) (and_then (merge_all k s w.merging) (λ t. after_merging n k w t))
+-- what a line brings, added to the group of this number
+abbrev pub add_brought : ℕ → ℕ → Settings → List (List ℕ) → Option RemapLine → Step
+add_brought n k s ws None = Err BadUrl
+add_brought n k s ws (Some w) =
+    cond (length (first_section ws) == 0) (Err NoMerge) (and_then (merge_all k s w.merging) (λ t. after_merging n k w t))
 
--- how many targets the group at a place has
+-- how many targets the group of this number has
 abbrev pub held_at : ℕ → Settings → ℕ
 held_at k s = length (slice_index_or s.groups k (new_group [] 0)).targets
 
 abbrev pub add_words : List ListFile → ℕ → ℕ → Settings → List (List ℕ) → Step
-add_words lists n k s ws = add_work n k s ws (work_of lists (held_at k s) ws)
+add_words lists n k s ws = add_brought n k s ws (line_of lists (held_at k s) ws)
 
 abbrev pub add_remap : List ListFile → ℕ → Settings → List ℕ → List ℕ → Step
 add_remap lists n s name value =
@@ -159,29 +167,25 @@ add_remap lists n s name value =
 
 -- ---- lines
 
--- the settings after a value at line n, by what its key stands for; a group's key sets nothing by itself
-abbrev pub plain_value : ℕ → Settings → List ℕ → Key → Step
-plain_value n s value Port = with_number (number_of 1 65535 value) (λ x. record s { port = x })
-plain_value n s value BindAddress = set_bind n s (words value)
-plain_value n s value ReportPage = set_page s value
-plain_value n s value ExThreshold = with_number (number_of 0 36500 value) (λ x. record s { threshold_days = x })
-plain_value n s value ExAbortOnProblems = with_number (number_of 0 1000000 value) (λ x. record s { abort_limit = x })
-plain_value n s value Offlinemode = with_number (number_of 0 1 value) (λ x. record s { offline = x == 1 })
-plain_value n s value FreshIndexMaxAge = with_number (number_of 0 31536000 value) (λ x. record s { fresh_age = x })
-plain_value n s value RedirMax = with_number (number_of 0 15 value) (λ x. record s { redir_max = x })
-plain_value n s value MaintOverHttp = with_number (number_of 0 1 value) (λ x. record s { maint_over_http = x == 1 })
-plain_value n s value PfilePatternEx = with_pattern value (record s { pfile_pattern = Some value })
-plain_value n s value VfilePatternEx = with_pattern value (record s { vfile_pattern = Some value })
-plain_value n s value Remap = Ok s
-plain_value n s value Other = Ok (with_warning n Unused s)
+-- the settings after a setting's value at line n
+abbrev pub with_setting : ℕ → Settings → List ℕ → Setting → Step
+with_setting n s value Port = with_number (setting_number 1 65535 value) (λ x. record s { port = x })
+with_setting n s value BindAddress = set_bind n s (words value)
+with_setting n s value ReportPage = set_page s value
+with_setting n s value ExThreshold = with_number (setting_number 0 36500 value) (λ x. record s { threshold_days = x })
+with_setting n s value ExAbortOnProblems = with_number (setting_number 0 1000000 value) (λ x. record s { abort_limit = x })
+with_setting n s value Offlinemode = with_number (setting_number 0 1 value) (λ x. record s { offline = x == 1 })
+with_setting n s value FreshIndexMaxAge = with_number (setting_number 0 31536000 value) (λ x. record s { fresh_age = x })
+with_setting n s value RedirMax = with_number (setting_number 0 15 value) (λ x. record s { redir_max = x })
+with_setting n s value MaintOverHttp = with_number (setting_number 0 1 value) (λ x. record s { maint_over_http = x == 1 })
+with_setting n s value PfilePatternEx = with_pattern value (record s { pfile_pattern = Some value })
+with_setting n s value VfilePatternEx = with_pattern value (record s { vfile_pattern = Some value })
 
-abbrev pub is_remap : Key → Bool
-is_remap Remap = true
-is_remap _ = false
-
--- a group's key has the group's name
+-- after a value, by what its key is; a group's key has the group's name
 abbrev pub after_value : List ListFile → ℕ → Settings → List ℕ → List ℕ → Key → Step
-after_value lists n s key value k = cond (is_remap k) (add_remap lists n s (group_name key) value) (plain_value n s value k)
+after_value lists n s key value (OneSetting setting) = with_setting n s value setting
+after_value lists n s key value Group = add_remap lists n s (group_name key) value
+after_value lists n s key value Unused = Ok (with_warning n UnusedKey s)
 
 abbrev pub after_key : List ListFile → ℕ → Settings → List ℕ → List ℕ → Step
 after_key lists n s key value = cond (is_key key) (after_value lists n s key value (key_of key)) (Err NotALine)
@@ -192,16 +196,16 @@ after_colon lists n s text None = Err NotALine
 after_colon lists n s text (Some k) = after_key lists n s (take k text) (trim (drop (k + 1) text))
 
 abbrev pub is_colon : ℕ → Bool
-is_colon b = b == 58
+is_colon b = b == colon
 
 abbrev pub after_text : List ListFile → ℕ → Settings → List ℕ → Step
 after_text lists n s text = after_colon lists n s text (position is_colon text)
 
--- a line that says something has at most 8,192 bytes
+-- a line that says something has a most of bytes
 abbrev pub after_line : List ListFile → ℕ → Settings → List ℕ → Step
 after_line lists n s line =
     cond (is_skipped (trim line)) (Ok s)
-    (cond (nat_lt 8192 (length line)) (Err TooLong) (after_text lists n s (without_comment (trim line))))
+    (cond (nat_lt most_line (length line)) (Err TooLong) (after_text lists n s (without_comment (trim line))))
 
 -- ---- the text
 
@@ -215,14 +219,15 @@ at_line n (Err cause) = Err (record { line = n; cause = cause })
 abbrev pub after_lines : Bool → List ListFile → ℕ → Settings → List (List ℕ) → Result Settings ConfFault
 after_lines over lists n s [] = Ok s
 after_lines over lists n s (p ∷ []) = at_line n (cond over (Err TooLong) (after_line lists n s p))
-after_lines over lists n s (p ∷ q ∷ ps) = and_then (at_line n (after_line lists n s (without_cr p))) (λ t. after_lines over lists (n + 1) t (q ∷ ps))
+after_lines over lists n s (p ∷ q ∷ ps) =
+    and_then (at_line n (after_line lists n s (without_cr p))) (λ t. after_lines over lists (n + 1) t (q ∷ ps))
 
 -- ---- groups with a prefix and no target
 
 abbrev pub lacks_target : Mirrors → Bool
-lacks_target g = list_any (λ e. begins_with 47 e) g.merging && length g.targets == 0
+lacks_target g = list_any (λ e. first_is slash e) g.merging && length g.targets == 0
 
--- the place of the first warning of a later line
+-- the position of the first warning of a later line
 abbrev pub first_later : ℕ → List Warning → ℕ
 first_later n ws = unwrap_or (position (λ v. nat_lt n v.line) ws) (length ws)
 
@@ -241,4 +246,4 @@ finished s = record s { warnings = with_no_targets s.warnings s.groups }
 -- what a text says, or its first refusal; no byte past the limit counts
 abbrev pub reading : List ℕ → List ListFile → Result Settings ConfFault
 reading text lists =
-    and_then (after_lines (nat_lt 4194304 (length text)) lists 1 defaults (pieces (take 4194304 text))) (λ s. Ok (finished s))
+    and_then (after_lines (nat_lt most_text (length text)) lists 1 defaults (pieces (take most_text text))) (λ s. Ok (finished s))

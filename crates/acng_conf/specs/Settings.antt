@@ -2,6 +2,27 @@
 use Rattle.std.specs.Prelude.{ℕ, Bool, false, List, [], Option, None, codes}
 use Rattle.acng_conf.specs.declared.fault.Warning.{Warning}
 
+-- ---- limits
+
+-- the most bytes of a text, and of a line that says something
+abbrev pub most_text : ℕ
+most_text = 4194304
+
+abbrev pub most_line : ℕ
+most_line = 8192
+
+-- the most groups, the most entries that merge into them, and the most targets of a group
+abbrev pub most_groups : ℕ
+most_groups = 256
+
+abbrev pub most_entries : ℕ
+most_entries = 20000
+
+abbrev pub most_targets : ℕ
+most_targets = 64
+
+-- ---- settings
+
 -- a group of mirrors: its name, the places that merge into it, the URLs that are asked for it, and the last line that names it
 pub record Mirrors : Type 0 where
   pub name : List ℕ
@@ -43,4 +64,25 @@ defaults = record {
   groups = [];
   entries = 0;
   warnings = [];
+}
+
+-- what the serving of files follows of a configuration
+pub record Rules : Type 0 where
+  pub threshold_days : ℕ
+  pub abort_limit : ℕ
+  pub offline : Bool
+  pub fresh_age : ℕ
+  pub redir_max : ℕ
+  pub pfile_pattern : Option (List ℕ)
+  pub vfile_pattern : Option (List ℕ)
+
+abbrev pub rules_of : Settings → Rules
+rules_of s = record {
+  threshold_days = s.threshold_days;
+  abort_limit = s.abort_limit;
+  offline = s.offline;
+  fresh_age = s.fresh_age;
+  redir_max = s.redir_max;
+  pfile_pattern = s.pfile_pattern;
+  vfile_pattern = s.vfile_pattern;
 }

@@ -6,7 +6,7 @@ ghost use Rattle.acng_conf.specs.Readings.{is_pattern, owner, called, are_names,
 
 use crate::fault::Warning;
 use crate::group::Group;
-use crate::values::Values;
+use crate::settings::Settings;
 use acng_base::NoMemory;
 use std::alloc::Global;
 use std::collections::BTreeMap;
@@ -18,7 +18,7 @@ use std::marker::Model;
 /// takes the whole and gives it back, so that none is seen whose look-up and groups differ.
 #[derive(Debug, Drop)]
 pub struct Conf {
-    pub(crate) values: Values,
+    pub(crate) settings: Settings,
     pub(crate) owners: BTreeMap<Vec<u8>, usize>,
 }
 
@@ -28,9 +28,9 @@ impl Model for Conf {
 
     ghost Value = { Settings };
 
-    ghost view = { λ c. c.values };
+    ghost view = { λ c. c.settings };
 
-    ghost invariant = { λ c. IsLookUp (λ k. k.items) c.owners c.values.groups };
+    ghost invariant = { λ c. IsLookUp (λ k. k.items) c.owners c.settings.groups };
 }
 
 impl Conf {
@@ -39,7 +39,7 @@ impl Conf {
         ensures { IfOk result (λ conf. conf ≡ defaults) }
     {
         Ok(Conf {
-            values: Values::new(alloc)?,
+            settings: Settings::new(alloc)?,
             owners: BTreeMap::new(alloc),
         })
     }
@@ -48,72 +48,75 @@ impl Conf {
     pub(crate) fn finish(self) -> Result<Conf, NoMemory>
         ensures { IfOk result (λ conf. conf ≡ finished self) }
     {
-        let Conf { mut values, owners } = self;
-        values.warn_of_groups()?;
-        Ok(Conf { values, owners })
+        let Conf {
+            mut settings,
+            owners,
+        } = self;
+        settings.warn_of_groups()?;
+        Ok(Conf { settings, owners })
     }
 
     /// The port that clients connect to; at least 1.
     pub fn port(&self) -> u16
         ensures { result ≡ self.now.port }
     {
-        self.values.port
+        self.settings.port
     }
 
     /// The address that the port is bound at.
     pub fn bind(&self) -> &[u8]
         ensures { result.now ≡ self.now.bind }
     {
-        self.values.bind.as_bytes()
+        self.settings.bind.as_bytes()
     }
 
     /// For how many days a file stays that no index names.
     pub fn threshold_days(&self) -> u32
         ensures { result ≡ self.now.threshold_days }
     {
-        self.values.threshold_days
+        self.settings.threshold_days
     }
 
     /// From how many problems on nothing expires; 0 for never.
     pub fn abort_limit(&self) -> u32
         ensures { result ≡ self.now.abort_limit }
     {
-        self.values.abort_limit
+        self.settings.abort_limit
     }
 
     /// Whether no origin is asked.
     pub fn offline(&self) -> bool
         ensures { result ≡ self.now.offline }
     {
-        self.values.offline
+        self.settings.offline
     }
 
     /// The name of the report page.
     pub fn report_page(&self) -> &[u8]
         ensures { result.now ≡ self.now.report_page }
     {
-        self.values.report_page.as_bytes()
+        self.settings.report_page.as_bytes()
     }
 
     /// For how many seconds a volatile file is fresh.
     pub fn fresh_age(&self) -> u64
         ensures { result ≡ self.now.fresh_age }
     {
-        self.values.fresh_age
+        self.settings.fresh_age
     }
 
     /// How many redirects are followed in a row.
     pub fn redir_max(&self) -> u32
         ensures { result ≡ self.now.redir_max }
     {
-        self.values.redir_max
+        self.settings.redir_max
     }
 
     /// Whether the report page may start an expiration.
     pub fn maint_over_http(&self) -> bool
         ensures { result ≡ self.now.maint_over_http }
     {
-        self.values.maint_over_http
+        self.settings.maint_over_http
     }
 
     /// The pattern of further package files; `regex` reads it.
@@ -121,7 +124,7 @@ impl Conf {
         ensures text { option_map (λ text. text.now) result ≡ self.now.pfile_pattern }
         ensures pattern { option_map_or is_pattern self.now.pfile_pattern true ≡ true }
     {
-        match &self.values.pfile_pattern {
+        match &self.settings.pfile_pattern {
             Some(text) => Some(text.as_bytes()),
             None => None,
         }
@@ -132,7 +135,7 @@ impl Conf {
         ensures text { option_map (λ text. text.now) result ≡ self.now.vfile_pattern }
         ensures pattern { option_map_or is_pattern self.now.vfile_pattern true ≡ true }
     {
-        match &self.values.vfile_pattern {
+        match &self.settings.vfile_pattern {
             Some(text) => Some(text.as_bytes()),
             None => None,
         }
@@ -143,14 +146,14 @@ impl Conf {
         ensures groups { result.now ≡ self.now.groups }
         ensures names { are_names self.now.groups ≡ true }
     {
-        self.values.groups.as_slice()
+        self.settings.groups.as_slice()
     }
 
     /// The warnings, by rising line.
     pub fn warnings(&self) -> &[Warning]
         ensures { result.now ≡ self.now.warnings }
     {
-        self.values.warnings.as_slice()
+        self.settings.warnings.as_slice()
     }
 
     /// The number of the group that the entry, in its canonical form, merges into. One look-up; takes no memory.
@@ -166,6 +169,6 @@ impl Conf {
         ensures named { result ≡ called name.now self.now.groups }
         ensures within { IfSome result (λ k. k < length self.now.groups) }
     {
-        self.values.named(name)
+        self.settings.named(name)
     }
 }

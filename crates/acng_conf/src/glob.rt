@@ -1,9 +1,9 @@
 //! Which names fit a pattern, in which `*` stands for any bytes.
 ghost use Rattle.std.specs.Prelude.{◌≡◌, ◌≤◌, ◌<◌, ◌+◌, Bool, true, false, [], length, drop};
-ghost use Rattle.acng_conf.specs.Cuts.{begins_with};
+ghost use Rattle.acng_conf.specs.Lines.{first_is, star};
 ghost use Rattle.acng_conf.specs.Globs.{fits, some_end};
 
-use crate::cut::begins_with;
+use crate::lines::first_is;
 
 /// Whether the name fits.
 pub fn fits(pattern: &[u8], name: &[u8]) -> bool
@@ -14,7 +14,7 @@ pub fn fits(pattern: &[u8], name: &[u8]) -> bool
     if equal == name.len() {
         return is_stars(behind);
     }
-    begins_with(b'*', behind) && fits_some_end(&behind[1..], &name[equal..])
+    first_is(b'*', behind) && fits_some_end(&behind[1..], &name[equal..])
 }
 
 // Whether some end of the name fits. Only the star met last is tried again, since it can take what an earlier one
@@ -30,7 +30,7 @@ fn fits_some_end(pattern: &[u8], name: &[u8]) -> bool
         if equal == left.len() {
             return is_stars(behind);
         }
-        if begins_with(b'*', behind) {
+        if first_is(b'*', behind) {
             rest = &behind[1..];
             left = &left[equal..];
         } else {
@@ -46,10 +46,11 @@ fn equal_bytes(pattern: &[u8], name: &[u8]) -> usize
     ensures same { fits pattern.now name.now ≡ fits (drop result pattern.now) (drop result name.now) }
 
     // If a later end of the name fits, the rest of the pattern fits an end behind these bytes.
-    ensures later { some_end (fits pattern.now) (drop 1 name.now) ≡ true → some_end (fits (drop result pattern.now)) (drop (result + 1) name.now) ≡ true }
+    ensures later { some_end (fits pattern.now) (drop 1 name.now) ≡ true
+        → some_end (fits (drop result pattern.now)) (drop (result + 1) name.now) ≡ true }
 
     // Short of the name's end and of a star, nothing fits.
-    ensures stop { result < length name.now → begins_with 42 (drop result pattern.now) ≡ false → fits pattern.now name.now ≡ false }
+    ensures stop { result < length name.now → first_is star (drop result pattern.now) ≡ false → fits pattern.now name.now ≡ false }
 {
     for i in 0..pattern.len() {
         if i == name.len() || pattern[i] == b'*' || pattern[i] != name[i] {

@@ -1,14 +1,24 @@
 //! Keys, and names of groups.
-ghost use Rattle.std.specs.Prelude.{◌≡◌, bytes_eq, take, codes};
+ghost use Rattle.std.specs.Prelude.{◌≡◌, ◌≤◌, IsTrue, length, take, codes};
 ghost use Rattle.std.specs.List.{list_all};
-ghost use Rattle.std.specs.Str.{str_to_ascii_lowercase};
-ghost use Rattle.acng_conf.specs.Keys.{is_word_byte, is_key, is_page, is_group_name, is_named, key_of};
+ghost use Rattle.acng_conf.specs.Keys.{is_word_byte, is_key, is_page, is_group_name, is_named, key_of, setting_of, group_name};
 
-use crate::cut::begins_with;
+use crate::lines::first_is;
 
-/// What a key stands for.
-#[derive(Clone, Copy, Debug, PartialEq, Eq)]
+/// What a key is.
+#[derive(Clone, Copy)]
 pub enum Key {
+    /// One value is set.
+    Setting(Setting),
+    /// A group's key, whose name stands behind the first six bytes.
+    Group,
+    /// A key without a meaning.
+    Unused,
+}
+
+/// What a key with one value sets.
+#[derive(Clone, Copy)]
+pub enum Setting {
     Port,
     BindAddress,
     ReportPage,
@@ -20,10 +30,6 @@ pub enum Key {
     MaintOverHttp,
     PfilePatternEx,
     VfilePatternEx,
-    /// A group's key, whose name stands behind the first six bytes.
-    Remap,
-    /// A key without a meaning.
-    Other,
 }
 
 /// A letter, and then letters, digits, `-`, `_` and `.`.
@@ -57,54 +63,73 @@ pub fn is_page(text: &[u8]) -> bool
 pub fn is_group_name(text: &[u8]) -> bool
     ensures { result ≡ is_group_name text.now }
 {
-    is_page(text) && !begins_with(b'.', text)
+    is_page(text) && !first_is(b'.', text)
 }
 
-/// What the key stands for, letters' case aside.
+/// What the key is, letters' case aside.
 pub fn key_of(key: &[u8]) -> Key
-    ensures { result ≡ key_of key.now }
+    ensures key { result ≡ key_of key.now }
+    ensures named { result ≡ Key.Group → 6 ≤ length key.now }
 {
-    if key.eq_ignore_ascii_case(b"port") {
-        return Key::Port;
+    if is_group_key(key) {
+        return Key::Group;
     }
-    if key.eq_ignore_ascii_case(b"bindaddress") {
-        return Key::BindAddress;
+    match setting_of(key) {
+        Some(setting) => Key::Setting(setting),
+        None => Key::Unused,
     }
-    if key.eq_ignore_ascii_case(b"reportpage") {
-        return Key::ReportPage;
-    }
-    if key.eq_ignore_ascii_case(b"exthreshold") {
-        return Key::ExThreshold;
-    }
-    if key.eq_ignore_ascii_case(b"exabortonproblems") {
-        return Key::ExAbortOnProblems;
-    }
-    if key.eq_ignore_ascii_case(b"offlinemode") {
-        return Key::Offlinemode;
-    }
-    if key.eq_ignore_ascii_case(b"freshindexmaxage") {
-        return Key::FreshIndexMaxAge;
-    }
-    if key.eq_ignore_ascii_case(b"redirmax") {
-        return Key::RedirMax;
-    }
-    if key.eq_ignore_ascii_case(b"maintoverhttp") {
-        return Key::MaintOverHttp;
-    }
-    if key.eq_ignore_ascii_case(b"pfilepatternex") {
-        return Key::PfilePatternEx;
-    }
-    if key.eq_ignore_ascii_case(b"vfilepatternex") {
-        return Key::VfilePatternEx;
-    }
-    if is_remap(key) {
-        return Key::Remap;
-    }
-    Key::Other
 }
 
-fn is_remap(key: &[u8]) -> bool
-    ensures { result ≡ is_named (codes "remap-") (take 6 key.now) }
+fn is_group_key(key: &[u8]) -> bool
+    ensures key { result ≡ is_named (codes "remap-") (take 6 key.now) }
+    ensures named { IsTrue result → 6 ≤ length key.now }
 {
     key.len() >= 6 && key[..6].eq_ignore_ascii_case(b"remap-")
+}
+
+/// The name of a group in its key.
+pub fn group_name(key: &[u8]) -> &[u8]
+    requires { 6 ≤ length key.now }
+    ensures { result.now ≡ group_name key.now }
+{
+    &key[6..]
+}
+
+fn setting_of(key: &[u8]) -> Option<Setting>
+    ensures { result ≡ setting_of key.now }
+{
+    if key.eq_ignore_ascii_case(b"port") {
+        return Some(Setting::Port);
+    }
+    if key.eq_ignore_ascii_case(b"bindaddress") {
+        return Some(Setting::BindAddress);
+    }
+    if key.eq_ignore_ascii_case(b"reportpage") {
+        return Some(Setting::ReportPage);
+    }
+    if key.eq_ignore_ascii_case(b"exthreshold") {
+        return Some(Setting::ExThreshold);
+    }
+    if key.eq_ignore_ascii_case(b"exabortonproblems") {
+        return Some(Setting::ExAbortOnProblems);
+    }
+    if key.eq_ignore_ascii_case(b"offlinemode") {
+        return Some(Setting::Offlinemode);
+    }
+    if key.eq_ignore_ascii_case(b"freshindexmaxage") {
+        return Some(Setting::FreshIndexMaxAge);
+    }
+    if key.eq_ignore_ascii_case(b"redirmax") {
+        return Some(Setting::RedirMax);
+    }
+    if key.eq_ignore_ascii_case(b"maintoverhttp") {
+        return Some(Setting::MaintOverHttp);
+    }
+    if key.eq_ignore_ascii_case(b"pfilepatternex") {
+        return Some(Setting::PfilePatternEx);
+    }
+    if key.eq_ignore_ascii_case(b"vfilepatternex") {
+        return Some(Setting::VfilePatternEx);
+    }
+    None
 }

@@ -8,31 +8,31 @@
 //! through an ordered map, so that lists of many thousand mirrors read at once.
 #![tactic(auto)]
 
-pub mod conf;
-mod cut;
-pub mod fault;
+mod conf;
+mod fault;
 mod glob;
-pub mod group;
+mod group;
 mod key;
+mod lines;
 mod number;
 mod pattern;
-pub mod place;
+mod place;
 mod print;
 mod read;
 mod remap;
-mod setting;
-#[cfg(test)]
-mod tests;
-mod values;
+mod remap_line;
+mod rules;
+mod settings;
 mod warn;
-mod work;
 
 pub use conf::Conf;
-pub use cut::begins_with;
 pub use fault::{ConfCause, ConfFault, ListFile, WarnCause, Warning};
+pub use glob::fits;
 pub use group::Group;
 pub use key::are_word_bytes;
+pub use lines::first_is;
 pub use number::read_number;
 pub use place::{ESCAPED, push_escaped, push_plain};
 pub use print::{print_conf, print_fault};
 pub use read::read_conf;
+pub use rules::Rules;

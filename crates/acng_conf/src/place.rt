@@ -8,7 +8,7 @@ ghost use Rattle.url.specs.Host.{host_text};
 ghost use Rattle.url.specs.Parser.{parse_url};
 ghost use Rattle.acng_conf.specs.Places.{plain_path, is_path, escaped_path, is_plain_host, is_plain_http, has_scheme, as_url, if_plain, plain_of, read_plain, host_and_port, form, with_path, url_entry, prefix_entry, entry_of};
 
-use crate::cut::begins_with;
+use crate::lines::first_is;
 use acng_base::{CachePath, NoMemory, Text};
 use percent_encoding::{AsciiSet, NON_ALPHANUMERIC, ascii_set, percent_decode, percent_encode};
 use std::alloc::Global;
@@ -39,7 +39,7 @@ pub const ESCAPED: AsciiSet = ascii_set!(
 );
 
 /// The sections of a group's line that have entries.
-#[derive(Clone, Copy, Debug, PartialEq, Eq)]
+#[derive(Clone, Copy)]
 pub enum Section {
     /// Places that merge into the group.
     Merging,
@@ -60,7 +60,7 @@ pub fn entry_of(alloc: Global, section: Section, word: &[u8]) -> Result<Option<T
 fn merging_entry(alloc: Global, word: &[u8]) -> Result<Option<Text>, NoMemory>
     ensures { IfOk result (λ entry. entry ≡ entry_of Section.Merging word.now) }
 {
-    if begins_with(b'/', word) {
+    if first_is(b'/', word) {
         prefix_entry(alloc, word)
     } else {
         url_entry(alloc, Section::Merging, word)

@@ -1,18 +1,20 @@
 //! The reading of a text, line by line, up to its end or its first refusal.
 ghost use Rattle.std.specs.Prelude.{◌≡◌, ◌≢◌, IfOk, OnOk, IfErr, Ok, Err, length, nat_lt, take, position, cond, ◌≤◌, ◌<◌, ◌+◌, drop, IfSome};
-ghost use Rattle.acng_conf.specs.Cuts.{pieces, trim};
-ghost use Rattle.acng_conf.specs.Readings.{reading, is_colon, Gives, GivesAt, after_lines, at_line, after_line, after_text, after_key, after_value, plain_value, is_remap};
-ghost use Rattle.acng_conf.specs.Keys.{group_name};
+ghost use Rattle.acng_conf.specs.Bounds.{IsBounded};
+ghost use Rattle.acng_base.specs.Cuts.{pieces, trim};
+ghost use Rattle.acng_conf.specs.Readings.{reading, is_colon, Gives, GivesAt, after_lines, at_line, after_line, after_text, after_key, after_value, with_setting, with_warning};
+ghost use Rattle.acng_conf.specs.Keys.{key_of};
+ghost use Rattle.acng_conf.specs.Settings.{most_text};
 
 use crate::conf::Conf;
-use crate::cut::{is_skipped, next_lf, trim, without_comment, without_cr};
-use crate::fault::{ConfCause, ConfFault, ListFile};
-use crate::key::{Key, is_key, key_of};
-use acng_base::NoMemory;
+use crate::fault::{ConfCause, ConfFault, ListFile, WarnCause};
+use crate::key::{Key, Setting, group_name, is_key, key_of};
+use crate::lines::{is_skipped, without_comment};
+use acng_base::{NoMemory, find_byte, next_line_feed, trim, without_cr};
 use std::alloc::Global;
 
 /// The most bytes of a text.
-const MOST: usize = 4_194_304;
+const MOST_TEXT: usize = 4_194_304;
 
 /// The most bytes of a line that says something.
 const MOST_LINE: usize = 8_192;
@@ -20,12 +22,13 @@ const MOST_LINE: usize = 8_192;
 /// What the text says, or its first refusal. List files are those that a `file:` word may name, in their order.
 pub fn read_conf(alloc: Global, text: &[u8], lists: &[ListFile]) -> Result<Conf, ConfFault>
     ensures conf { IfOk result (λ conf. reading text.now lists.now ≡ Ok conf) }
+    ensures bounded { IfOk result (λ conf. IsBounded conf) }
     ensures refused { IfErr result (λ fault. fault.cause ≢ ConfCause.NoMemory → reading text.now lists.now ≡ Err fault) }
 {
     let Ok(conf) = Conf::new(alloc) else {
         return Err(out_of_memory());
     };
-    let read = conf.read_text(alloc, lists, text.len() > MOST, front(text))?;
+    let read = read_text(alloc, lists, text.len() > MOST_TEXT, front(text), conf)?;
     match read.finish() {
         Ok(conf) => Ok(conf),
         Err(NoMemory) => Err(out_of_memory()),
@@ -44,25 +47,25 @@ fn out_of_memory() -> ConfFault
 
 // The bytes that count.
 fn front(text: &[u8]) -> &[u8]
-    ensures front { result.now ≡ take 4194304 text.now }
-    ensures short { length result.now ≤ 4194304 }
+    ensures front { result.now ≡ take most_text text.now }
+    ensures short { length result.now ≤ most_text }
 {
-    if text.len() > MOST {
-        &text[..MOST]
+    if text.len() > MOST_TEXT {
+        &text[..MOST_TEXT]
     } else {
         text
     }
 }
 
-// The place of the first colon.
+// Where the first colon stands.
 fn colon(text: &[u8]) -> Option<usize>
-    ensures place { result ≡ position is_colon text.now }
+    ensures at { result ≡ position is_colon text.now }
     ensures within { IfSome result (λ k. k < length text.now) }
 {
-    text.iter().position(|b| *b == b':')
+    find_byte(text, b':')
 }
 
-// Up to a place.
+// Up to an offset.
 fn up_to(text: &[u8], k: usize) -> &[u8]
     requires { k < length text.now }
     ensures { result.now ≡ take k text.now }
@@ -70,7 +73,7 @@ fn up_to(text: &[u8], k: usize) -> &[u8]
     &text[..k]
 }
 
-// What follows a place, without blanks.
+// What follows the byte at an offset, without blanks.
 fn after(text: &[u8], k: usize) -> &[u8]
     requires { k < length text.now }
     ensures { result.now ≡ trim (drop (k + 1) text.now) }
@@ -78,159 +81,134 @@ fn after(text: &[u8], k: usize) -> &[u8]
     trim(&text[k + 1..])
 }
 
-impl Conf {
-    // The lines of a text, which goes on past its limit where it is `over`.
-    fn read_text(
-        self,
-        alloc: Global,
-        lists: &[ListFile],
-        over: bool,
-        text: &[u8],
-    ) -> Result<Conf, ConfFault>
-        requires { length text.now ≤ 4194304 }
-        ensures { GivesAt (after_lines over lists.now 1 self (pieces text.now)) result }
-    {
-        let mut conf = self;
-        let mut line = 1;
-        let mut start = 0;
-        while let Some(len) = next_lf(&text[start..]) {
-            match conf.read_at(alloc, lists, line, without_cr(&text[start..start + len])) {
-                Ok(next) => conf = next,
-                Err(fault) => return Err(fault),
-            }
-            start += len + 1;
-            line += 1;
-        }
-        conf.read_last(alloc, lists, over, line, &text[start..])
-    }
+/// A reading under way: what the lines so far say, the list files, and the number of the line at hand.
+#[derive(Drop)]
+pub(crate) struct Reading<'l> {
+    pub(crate) conf: Conf,
+    pub(crate) lists: &'l [ListFile],
+    pub(crate) line: u32,
+}
 
+// The lines of a text, which goes on past its limit where it is `over`.
+fn read_text(
+    alloc: Global,
+    lists: &[ListFile],
+    over: bool,
+    text: &[u8],
+    start_conf: Conf,
+) -> Result<Conf, ConfFault>
+    requires { length text.now ≤ most_text }
+    ensures { GivesAt (after_lines over lists.now 1 start_conf (pieces text.now)) result }
+{
+    let mut conf = start_conf;
+    let mut line = 1;
+    let mut start = 0;
+    while let Some(len) = next_line_feed(&text[start..]) {
+        let reading = Reading { conf, lists, line };
+        match reading.read_at(alloc, without_cr(&text[start..start + len])) {
+            Ok(next) => conf = next,
+            Err(fault) => return Err(fault),
+        }
+        start += len + 1;
+        line += 1;
+    }
+    let reading = Reading { conf, lists, line };
+    reading.read_last(alloc, over, &text[start..])
+}
+
+impl Reading<'_> {
     // The last line, or the one that goes past the limit.
-    fn read_last(
-        self,
-        alloc: Global,
-        lists: &[ListFile],
-        over: bool,
-        line: u32,
-        text: &[u8],
-    ) -> Result<Conf, ConfFault>
-        ensures { GivesAt (at_line line (cond over (Err ConfCause.TooLong) (after_line lists.now line self text.now))) result }
+    fn read_last(self, alloc: Global, over: bool, text: &[u8]) -> Result<Conf, ConfFault>
+        ensures { GivesAt (at_line self.entry.line (cond over (Err ConfCause.TooLong)
+            (after_line self.entry.lists.now self.entry.line self.entry.conf text.now))) result }
     {
         if over {
             return Err(ConfFault {
-                line,
+                line: self.line,
                 cause: ConfCause::TooLong,
             });
         }
-        self.read_at(alloc, lists, line, text)
+        self.read_at(alloc, text)
     }
 
     // A line, whose refusal is at its number.
-    fn read_at(
-        self,
-        alloc: Global,
-        lists: &[ListFile],
-        line: u32,
-        text: &[u8],
-    ) -> Result<Conf, ConfFault>
-        ensures { GivesAt (at_line line (after_line lists.now line self text.now)) result }
+    fn read_at(self, alloc: Global, text: &[u8]) -> Result<Conf, ConfFault>
+        ensures { GivesAt (at_line self.entry.line (after_line self.entry.lists.now self.entry.line self.entry.conf text.now)) result }
     {
-        match self.read_line(alloc, lists, line, text) {
+        let line = self.line;
+        match self.read_line(alloc, text) {
             Ok(conf) => Ok(conf),
             Err(cause) => Err(ConfFault { line, cause }),
         }
     }
 
-    fn read_line(
-        self,
-        alloc: Global,
-        lists: &[ListFile],
-        line: u32,
-        text: &[u8],
-    ) -> Result<Conf, ConfCause>
-        ensures { Gives (after_line lists.now line self text.now) result }
+    fn read_line(self, alloc: Global, text: &[u8]) -> Result<Conf, ConfCause>
+        ensures { Gives (after_line self.entry.lists.now self.entry.line self.entry.conf text.now) result }
     {
         let said = trim(text);
         if is_skipped(said) {
-            return Ok(self);
+            return Ok(self.conf);
         }
         if text.len() > MOST_LINE {
             return Err(ConfCause::TooLong);
         }
-        self.read_said(alloc, lists, line, without_comment(said))
+        self.read_said(alloc, without_comment(said))
     }
 
-    fn read_said(
-        self,
-        alloc: Global,
-        lists: &[ListFile],
-        line: u32,
-        text: &[u8],
-    ) -> Result<Conf, ConfCause>
-        ensures { Gives (after_text lists.now line self text.now) result }
+    fn read_said(self, alloc: Global, text: &[u8]) -> Result<Conf, ConfCause>
+        ensures { Gives (after_text self.entry.lists.now self.entry.line self.entry.conf text.now) result }
     {
         match colon(text) {
-            Some(k) => self.read_pair(alloc, lists, line, up_to(text, k), after(text, k)),
+            Some(k) => self.read_pair(alloc, up_to(text, k), after(text, k)),
             None => Err(ConfCause::NotALine),
         }
     }
 
-    fn read_pair(
-        self,
-        alloc: Global,
-        lists: &[ListFile],
-        line: u32,
-        key: &[u8],
-        value: &[u8],
-    ) -> Result<Conf, ConfCause>
-        ensures { Gives (after_key lists.now line self key.now value.now) result }
+    fn read_pair(self, alloc: Global, key: &[u8], value: &[u8]) -> Result<Conf, ConfCause>
+        ensures { Gives (after_key self.entry.lists.now self.entry.line self.entry.conf key.now value.now) result }
     {
         if !is_key(key) {
             return Err(ConfCause::NotALine);
         }
-        self.read_value(alloc, lists, line, key, value, key_of(key))
+        self.read_value(alloc, key, value)
     }
 
-    // A value, by what its key stands for.
-    fn read_value(
-        self,
-        alloc: Global,
-        lists: &[ListFile],
-        line: u32,
-        key: &[u8],
-        value: &[u8],
-        is: Key,
-    ) -> Result<Conf, ConfCause>
-        ensures { Gives (after_value lists.now line self key.now value.now is) result }
+    // A value, by what its key is.
+    fn read_value(self, alloc: Global, key: &[u8], value: &[u8]) -> Result<Conf, ConfCause>
+        ensures { Gives (after_value self.entry.lists.now self.entry.line self.entry.conf key.now value.now (key_of key.now)) result }
     {
-        if is_remap(is) {
-            self.add_remap(alloc, lists, line, group_name(key), value)
-        } else {
-            self.read_plain(alloc, line, value, is)
+        match key_of(key) {
+            Key::Setting(setting) => self.conf.set(alloc, self.line, setting, value),
+            Key::Group => self.add_remap(alloc, group_name(key), value),
+            Key::Unused => self.conf.warn_unused(self.line),
         }
     }
+}
 
-    fn read_plain(self, alloc: Global, line: u32, value: &[u8], key: Key) -> Result<Conf, ConfCause>
-        ensures { Gives (plain_value line self value.now key) result }
+impl Conf {
+    fn set(
+        self,
+        alloc: Global,
+        line: u32,
+        setting: Setting,
+        value: &[u8],
+    ) -> Result<Conf, ConfCause>
+        ensures { Gives (with_setting line self value.now setting) result }
     {
-        let Conf { values, owners } = self;
-        let values = values.set(alloc, line, key, value)?;
-        Ok(Conf { values, owners })
+        let Conf { settings, owners } = self;
+        let settings = settings.set(alloc, line, setting, value)?;
+        Ok(Conf { settings, owners })
     }
-}
 
-fn is_remap(key: Key) -> bool
-    ensures { result ≡ is_remap key }
-{
-    matches!(key, Key::Remap)
-}
-
-// The name of a group in its key.
-fn group_name(key: &[u8]) -> &[u8]
-    ensures { result.now ≡ group_name key.now }
-{
-    if key.len() < 6 {
-        &key[key.len()..]
-    } else {
-        &key[6..]
+    // A key without a meaning.
+    fn warn_unused(self, line: u32) -> Result<Conf, ConfCause>
+        ensures { Gives (Ok (with_warning line WarnCause.Unused self)) result }
+    {
+        let Conf {
+            mut settings,
+            owners,
+        } = self;
+        settings.warn(line, WarnCause::Unused)?;
+        Ok(Conf { settings, owners })
     }
 }

@@ -1,17 +1,17 @@
 //! The lines of groups, added to a configuration in the making.
 ghost use Rattle.std.specs.Prelude.{◌≡◌, ◌++◌, ◌∷◌, ◌<◌, ◌≤◌, ℕ, List, Ok, IfOk, OnOk, IfSome, length, Some, None, Err, Option, cond, ◌==◌, ◌+◌, true};
 ghost use Rattle.acng_conf.specs.Keys.{is_group_name};
-ghost use Rattle.acng_conf.specs.Remaps.{Work as WorkView};
-ghost use Rattle.acng_conf.specs.Readings.{Gives, group_at, called, naming, with_place, with_targets, change, owner, merge, merge_all, add_words, add_work, add_remap, after_merging, is_too_many};
+ghost use Rattle.acng_conf.specs.Remaps.{RemapLine as LineView};
+ghost use Rattle.acng_conf.specs.Readings.{Gives, group_at, called, naming, with_place, with_targets, change, owner, merge, merge_all, add_words, add_brought, add_remap, after_merging, is_too_many};
 
 use crate::conf::Conf;
-use crate::cut::words;
-use crate::fault::{ConfCause, ListFile};
+use crate::fault::ConfCause;
 use crate::group::Group;
 use crate::key::is_group_name;
-use crate::values::Values;
-use crate::work::{WordFault, Work, read_words, section_len};
-use acng_base::{NoMemory, Text, Texts};
+use crate::read::Reading;
+use crate::remap_line::{RemapLine, WordFault, read_words, section_len};
+use crate::settings::Settings;
+use acng_base::{NoMemory, Text, Texts, words};
 use std::alloc::Global;
 
 /// The most groups.
@@ -20,86 +20,95 @@ const MOST_GROUPS: usize = 256;
 /// The most entries that merge.
 const MOST_ENTRIES: u64 = 20_000;
 
-impl Conf {
+impl Reading<'_> {
     /// The line of a group.
-    pub fn add_remap(
+    pub(crate) fn add_remap(
         self,
         alloc: Global,
-        lists: &[ListFile],
-        line: u32,
         name: &[u8],
         value: &[u8],
     ) -> Result<Conf, ConfCause>
-        ensures { Gives (add_remap lists.now line self name.now value.now) result }
+        ensures { Gives (add_remap self.entry.lists.now self.entry.line self.entry.conf name.now value.now) result }
     {
         if !is_group_name(name) {
             return Err(ConfCause::NotALine);
         }
         let words = words(alloc, value)?;
-        let k = self.values.group_at(name);
-        let named = self.name_group(alloc, line, name)?;
-        named.add_words(alloc, lists, line, k, words.as_slice())
+        let Reading { conf, lists, line } = self;
+        let k = conf.settings.group_at(name);
+        let conf = conf.name_group(alloc, line, name)?;
+        let named = Reading { conf, lists, line };
+        named.add_words(alloc, k, words.as_slice())
     }
 
-    // The group of the name stands among the groups, at the place where it stood or after the others.
-    fn name_group(self, alloc: Global, line: u32, name: &[u8]) -> Result<Conf, NoMemory>
-        requires { is_group_name name.now ≡ true }
-        ensures { IfOk result (λ conf. (conf ≡ naming name.now line self) × (group_at name.now self.groups < length conf.groups)) }
+    // The words of the line, for the group of a number.
+    fn add_words(self, alloc: Global, k: usize, words: &[Text]) -> Result<Conf, ConfCause>
+        requires { k < length self.conf.groups }
+        ensures { Gives (add_words self.entry.lists.now self.entry.line k self.entry.conf words.now) result }
     {
-        let Conf { mut values, owners } = self;
-        values.name_group(alloc, line, name)?;
-        Ok(Conf { values, owners })
-    }
-
-    fn add_words(
-        self,
-        alloc: Global,
-        lists: &[ListFile],
-        line: u32,
-        k: usize,
-        words: &[Text],
-    ) -> Result<Conf, ConfCause>
-        requires { k < length self.groups }
-        ensures { Gives (add_words lists.now line k self words.now) result }
-    {
-        let held = self.values.groups[k].targets().len();
-        match read_words(alloc, lists, held, words) {
-            Ok(work) => self.add_work(alloc, line, k, words, &work),
+        let held = self.conf.settings.groups[k].targets().len();
+        match read_words(alloc, self.lists, held, words) {
+            Ok(brought) => self.conf.add_brought(alloc, self.line, k, words, &brought),
             Err(WordFault::NoMemory) => Err(ConfCause::NoMemory),
             Err(WordFault::BadWord) => Err(ConfCause::BadUrl),
         }
     }
+}
 
-    fn add_work(
+impl Conf {
+    // The group of the name stands among the groups, with the number that it had or after the others.
+    fn name_group(self, alloc: Global, line: u32, name: &[u8]) -> Result<Conf, NoMemory>
+        requires { is_group_name name.now ≡ true }
+        ensures named { IfOk result (λ conf. conf ≡ naming name.now line self) }
+        ensures within { IfOk result (λ conf. group_at name.now self.groups < length conf.groups) }
+    {
+        let Conf {
+            mut settings,
+            owners,
+        } = self;
+        settings.name_group(alloc, line, name)?;
+        Ok(Conf { settings, owners })
+    }
+
+    fn add_brought(
         self,
         alloc: Global,
         line: u32,
         k: usize,
         words: &[Text],
-        work: &Work,
+        brought: &RemapLine,
     ) -> Result<Conf, ConfCause>
         requires { k < length self.groups }
-        ensures { Gives (add_work line k self words.now (Some work.now)) result }
+        ensures { Gives (add_brought line k self words.now (Some brought.now)) result }
     {
         if section_len(words) == 0 {
             return Err(ConfCause::NoMerge);
         }
-        let merged = self.merge_all(alloc, k, work.merging())?;
-        merged.add_rest(alloc, line, k, work)
+        let merged = self.merge_all(alloc, k, brought.merging())?;
+        merged.add_rest(alloc, line, k, brought)
     }
 
     // Targets and warnings, and the limits.
-    fn add_rest(self, alloc: Global, line: u32, k: usize, work: &Work) -> Result<Conf, ConfCause>
+    fn add_rest(
+        self,
+        alloc: Global,
+        line: u32,
+        k: usize,
+        brought: &RemapLine,
+    ) -> Result<Conf, ConfCause>
         requires { k < length self.groups }
-        ensures { Gives (after_merging line k work.now self) result }
+        ensures { Gives (after_merging line k brought.now self) result }
     {
-        let Conf { mut values, owners } = self;
-        values.add_targets(alloc, k, work.targets())?;
-        values.warn_all(line, work.causes())?;
-        if values.is_too_many() {
+        let Conf {
+            mut settings,
+            owners,
+        } = self;
+        settings.add_targets(alloc, k, brought.targets())?;
+        settings.warn_all(line, brought.causes())?;
+        if settings.is_too_many() {
             return Err(ConfCause::TooMany);
         }
-        Ok(Conf { values, owners })
+        Ok(Conf { settings, owners })
     }
 
     fn merge_all(self, alloc: Global, k: usize, entries: &Texts) -> Result<Conf, ConfCause>
@@ -146,21 +155,21 @@ impl Conf {
         ensures groups { IfOk result (λ conf. length conf.groups ≡ length self.groups) }
     {
         let Conf {
-            mut values,
+            mut settings,
             mut owners,
         } = self;
-        values.add_place(alloc, k, entry)?;
+        settings.add_place(alloc, k, entry)?;
         let key = Vec::from_slice(alloc, entry)?;
         let Ok(_) = owners.insert(key, k) else {
             return Err(NoMemory);
         };
-        Ok(Conf { values, owners })
+        Ok(Conf { settings, owners })
     }
 }
 
-impl Values {
+impl Settings {
     fn group_at(&self, name: &[u8]) -> usize
-        ensures place { result ≡ group_at name.now self.now.groups }
+        ensures at { result ≡ group_at name.now self.now.groups }
         ensures within { result ≤ length self.now.groups }
     {
         match self.named(name) {

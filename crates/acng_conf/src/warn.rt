@@ -1,16 +1,17 @@
 //! Warnings: of a line, and of groups that have a prefix and no target.
 ghost use Rattle.std.specs.Prelude.{◌≡◌, ◌++◌, ◌∷◌, ◌<◌, ◌≤◌, ℕ, List, [], cond, IfOk, OnOk, IfSome, length, unwrap_or, position, nat_lt};
 ghost use Rattle.std.specs.List.{list_any};
-ghost use Rattle.acng_conf.specs.Cuts.{begins_with};
+ghost use Rattle.acng_base.specs.Cuts.{slash};
+ghost use Rattle.acng_conf.specs.Lines.{first_is};
 ghost use Rattle.acng_conf.specs.Readings.{finished, with_no_targets, put_warning, lacks_target, with_warning, with_warnings, first_later};
 
-use crate::cut::begins_with;
 use crate::fault::{WarnCause, Warning};
 use crate::group::Group;
-use crate::values::Values;
+use crate::lines::first_is;
+use crate::settings::Settings;
 use acng_base::{NoMemory, Texts};
 
-impl Values {
+impl Settings {
     pub(crate) fn warn(&mut self, line: u32, cause: WarnCause) -> Result<(), NoMemory>
         ensures { OnOk result (self.new ≡ with_warning line cause self.old) }
     {
@@ -59,9 +60,9 @@ fn put_warning(warnings: &mut Vec<Warning>, line: u32) -> Result<(), NoMemory>
     Ok(())
 }
 
-// The place of the first warning of a later line.
+// The position of the first warning of a later line.
 fn first_later(warnings: &[Warning], line: u32) -> usize
-    ensures place { result ≡ first_later line warnings.now }
+    ensures at { result ≡ first_later line warnings.now }
     ensures within { result ≤ length warnings.now }
 {
     match find_later(warnings, line) {
@@ -71,7 +72,7 @@ fn first_later(warnings: &[Warning], line: u32) -> usize
 }
 
 fn find_later(warnings: &[Warning], line: u32) -> Option<usize>
-    ensures place { result ≡ position (λ v. nat_lt line v.line) warnings.now }
+    ensures at { result ≡ position (λ v. nat_lt line v.line) warnings.now }
     ensures within { IfSome result (λ k. k < length warnings.now) }
 {
     warnings.iter().position(|w| line < w.line)
@@ -86,10 +87,10 @@ impl Group {
 }
 
 fn has_prefix(entries: &Texts) -> bool
-    ensures { result ≡ list_any (λ e. begins_with 47 e) entries.now }
+    ensures { result ≡ list_any (λ e. first_is slash e) entries.now }
 {
     for i in 0..entries.len() {
-        if begins_with(b'/', entries.get(i)) {
+        if first_is(b'/', entries.get(i)) {
             return true;
         }
     }

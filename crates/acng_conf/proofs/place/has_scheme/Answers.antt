@@ -1,6 +1,6 @@
 use Rattle.std.proofs.Common.{◌≡◌, true, false, take, drop, bytes_eq, codes, ap, sym, ◌∙◌, arith}
 use Rattle.acng_base.proofs.Ranges.{rest_is_drop}
-use Rattle.acng_conf.proofs.Words.{scheme_here, scheme_later}
+use Rattle.acng_conf.proofs.Schemes.{scheme_here, scheme_later}
 use Rattle.acng_conf.proofs.place.has_scheme.Goals as goal
 
 pub returns-then-is_scheme_end : goal.returns-then-is_scheme_end

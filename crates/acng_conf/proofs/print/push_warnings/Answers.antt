@@ -1,6 +1,6 @@
 use Rattle.std.proofs.Common.{◌+◌, ◌++◌, sym, ap, ◌∙◌, drop, append_assoc}
 use Rattle.acng_conf.specs.Printed.{warning_lines}
-use Rattle.acng_conf.proofs.Rows.{row}
+use Rattle.acng_conf.proofs.Walks.{row}
 use Rattle.acng_conf.proofs.print.push_warnings.Goals as goal
 
 pub loop-warning-preserved : goal.loop-warning-preserved

@@ -6,7 +6,7 @@ use Rattle.acng_conf.proofs.conf.Conf.add_rest.Goals as goal
 
 pub invariant_of-result : goal.invariant_of-result
 invariant_of-result c =
-    let old = c.self.inside.values in
+    let old = c.self.inside.settings in
     let k = c.args.k in
     let f = with_targets c.targets.result.now in
     let is : (change f k old).groups ≡ c.warn_all.new.self.groups = search rules in

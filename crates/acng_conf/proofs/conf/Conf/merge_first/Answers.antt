@@ -7,7 +7,7 @@ use Rattle.acng_conf.proofs.conf.Conf.merge_first.Goals as goal
 
 pub invariant_of-result : goal.invariant_of-result
 invariant_of-result c =
-    let old = c.self.inside.values in
+    let old = c.self.inside.settings in
     let k = c.args.k in
     let key = c.in_ok-key.key in
     let text : key.items ≡ c.args.entry.now = c.in_ok-key.ensures.items in

@@ -8,7 +8,7 @@ use Rattle.acng_conf.proofs.conf.Conf.name_group.Goals as goal
 pub invariant_of-result : goal.invariant_of-result
 invariant_of-result c =
     let name = c.args.name.now in
-    let old = c.self.inside.values in
+    let old = c.self.inside.settings in
     let is : naming name c.args.line old ≡ c.name_group.new.self = sym c.in_ok-name_group.ensures.named in
     record {
       same = λ x. c.self.invariant.same x ∙ sym (after_naming name c.args.line old x) ∙ ap (λ (s : Settings). owner x s.groups) is;
