@@ -8,15 +8,15 @@ use Rattle.percent_encoding.specs.Percent.{percent_decode}
 use borrow.Author.Tests.{ltb-true}
 use Rattle.acng_base.specs.Paths.{path_refusal, is_slash}
 use Rattle.acng_base.specs.declared.path.PathFault.{PathFault}
-use Rattle.acng_conf.specs.Cuts.{is_empty}
+use Rattle.acng_base.specs.Cuts.{is_empty}
 use Rattle.acng_conf.specs.Places.{plain_path}
 use Rattle.acng_conf.specs.Readings.{owner, new_group, called, are_names}
 use Rattle.acng_conf.specs.Settings.{Mirrors, Settings}
-use Rattle.acng_remap.specs.Decisions.{deciding, home, if_counts, group, has_target}
+use Rattle.acng_remap.specs.Decisions.{deciding, group_of, if_counts, group, has_target}
 use Rattle.acng_remap.specs.Forms.{is_tls, is_absolute, has, page_query, after_start, before_slash, from_slash, has_slash}
 use Rattle.acng_remap.specs.Hosts.{host_port, host_name, host_text}
 use Rattle.acng_remap.specs.Origins.{lacks, is_orphan, origins_by, origins_of}
-use Rattle.acng_remap.specs.Readings.{Reading, reading, form_of, page_or, target_file, prefixed, host_file, hosted, place_file, placed, named_file, named_group, entry_file, own_file, group_file, group_origins, file, file_or, asked, url_of, rest_after}
+use Rattle.acng_remap.specs.Readings.{Reading, reading, form_of, page_or, target_file, prefixed, host_file, hosted, place_file, placed, named_file, named_group, entry_file, file_outside_groups, group_file, group_origins, file, file_or, asked, url_of, rest_after}
 use Rattle.acng_remap.specs.declared.target.Target.{Target}
 use Rattle.acng_remap.specs.declared.target.Target.TheVariants.{File, Page}
 use Rattle.acng_remap.specs.declared.target.TargetFault.{TargetFault}
@@ -81,8 +81,8 @@ of_group groups k rest place names lt = or_err groups (length rest == 0) _ (file
         ∙ ap (λ r. map (asked r) g.targets) (sym after)
         ∙ sym (ap (origins_by groups path) found)
 
-of_own : (groups : List Mirrors) (place host : List ℕ) → before_slash place ≡ host → called host groups ≡ None → Follows groups (own_file place host)
-unfolding own_file
+of_own : (groups : List Mirrors) (place host : List ℕ) → before_slash place ≡ host → called host groups ≡ None → Follows groups (file_outside_groups place host)
+unfolding file_outside_groups
 of_own groups place host name none =
     or_err groups (length place == length host) _ (file place (url_of place ∷ []))
     (of_file groups place (url_of place ∷ []) (λ orphan. sym (ap (origins_by groups place) (ap (λ n. called n groups) name ∙ none))))
@@ -96,8 +96,8 @@ within p xs k h = cases (nat_lt (position_or_len p xs) (length xs)) refl h
     cases true e h = let same : position_or_len p xs ≡ k = cc in let lt : position_or_len p xs < length xs = ltb-true _ _ e in subst (λ j. j < length xs) same lt
     cases false e h = cc
 
-home_within : (groups : List Mirrors) (e : List ℕ) (k : ℕ) → home groups e ≡ Some k → k < length groups
-unfolding home
+home_within : (groups : List Mirrors) (e : List ℕ) (k : ℕ) → group_of groups e ≡ Some k → k < length groups
+unfolding group_of
 home_within groups e k h = cases (owner e groups) refl h
   where
     counted : (b : Bool) (j : ℕ) → cond b (Some j) None ≡ Some k → j ≡ k
@@ -108,10 +108,10 @@ home_within groups e k h = cases (owner e groups) refl h
     cases None is h = cc
     cases (Some j) is h = subst (λ i. i < length groups) (counted _ j h) (within _ groups j is)
 
-of_entry : (groups : List Mirrors) (place entry : List ℕ) → are_names groups ≡ true → Follows groups (entry_file groups place entry (home groups entry))
-of_entry groups place entry names = cases (home groups entry) refl
+of_entry : (groups : List Mirrors) (place entry : List ℕ) → are_names groups ≡ true → Follows groups (entry_file groups place entry (group_of groups entry))
+of_entry groups place entry names = cases (group_of groups entry) refl
   where
-    cases : (o : Option ℕ) → home groups entry ≡ o → Follows groups (entry_file groups place entry o)
+    cases : (o : Option ℕ) → group_of groups entry ≡ o → Follows groups (entry_file groups place entry o)
     cases None is = tt
     cases (Some k) is = of_group groups k (rest_after entry place) place names (home_within groups entry k is)
 

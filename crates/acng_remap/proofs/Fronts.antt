@@ -1,21 +1,21 @@
 -- What stands before the first slash of a path: a group's name, or a host.
 use Rattle.std.proofs.Common.{◌≡◌, ℕ, zero, suc, ◌+◌, ◌<◌, ◌≤◌, Bool, true, false, ◌&&◌, ◌||◌, ◌==◌, List, [], ◌∷◌, ◌++◌, Option, Some, None, cond, map, length, take, drop, get_or, bytes_eq, nat_lt, nat_le, refl, ap, ◌∙◌, subst, arith}
 use Rattle.std.specs.List.{list_any, list_all, position, position_from, concat}
-use Rattle.std.specs.Option.{unwrap_or}
+use Rattle.std.specs.Option.{unwrap_or, option_and_then}
 use Rattle.std.specs.Char.{is_ascii_digit, to_ascii_lowercase}
 use Rattle.std.specs.Fmt.{decimal}
 use Rattle.std.specs.Str.{all_ascii_digits}
 use Rattle.std.specs.Str.Parse.{digits_value}
 use Rattle.std.proofs.lemmas.Fmt.{digits_decimal}
+use Rattle.std.proofs.lemmas.Str.Parse.{IsNumeralModel, numerals_by_value, tells_all_ascii_digits}
 use Rattle.std.proofs.lemmas.List.{append-nil}
 use Rattle.std.proofs.lemmas.List.Folds.{list_any-append}
 use Rattle.std.proofs.lemmas.Iterator.Adapters.{position_from-zero}
 use Rattle.std.proofs.lemmas.Slice.Eq.{bytes_eq-Decides}
 use Rattle.std.proofs.lemmas.Grind.{common_steps}
+use Rattle.acng_base.specs.Numbers.{are_digits}
 use Rattle.acng_base.specs.Paths.{is_slash}
-use Rattle.acng_conf.proofs.Digits.{numerals}
 use Rattle.acng_conf.specs.Keys.{is_word_byte}
-use Rattle.acng_conf.specs.Numbers.{number_of, is_number}
 use Rattle.acng_conf.specs.Settings.{Mirrors}
 use Rattle.acng_remap.specs.Forms.{has, before_slash, slash_at}
 use Rattle.acng_remap.specs.Hosts.{name_len, is_name, port_of, port_after, host_port, host_name, host_text}
@@ -25,6 +25,9 @@ parts true b h = cc
 parts false b h = (refl, h)
 
 -- ---- no slash stands in a host
+
+numerals : IsNumeralModel (λ ds. all_ascii_digits ds ≡ true) (digits_value 10)
+numerals = numerals_by_value (λ ds. all_ascii_digits ds ≡ true) tells_all_ascii_digits
 
 other : (a : ℕ) → (a ≡ 47 → ⊥) → (a == 47) ≡ false
 other a differ = grind (arith, common_steps, differ)
@@ -60,13 +63,17 @@ if_true true o k h = (refl, h)
 if_true false o k h = cc
 
 small : (digits : List ℕ) (port : ℕ) → port_of digits ≡ Some port → port ≤ 65535
-small digits port h =
-    let v = digits_value 10 digits in
-    let a = if_true (nat_le (length digits) 5) (number_of 1 65535 digits) port h in
-    let b = if_true (is_number digits) (cond (nat_le 1 v && nat_le v 65535) (Some v) None) port a.1 in
-    let c = if_true (nat_le 1 v && nat_le v 65535) (Some v) port b.1 in
-    let is : v ≡ port = let e = c.1 in cc in
-    grind (arith, common_steps)
+small digits port h = cases (are_digits 5 digits) h
+  where
+    v : ℕ
+    v = digits_value 10 digits
+
+    cases : (t : Bool) → option_and_then (λ n. cond (nat_le 1 n && nat_le n 65535) (Some n) None) (cond t (Some v) None) ≡ Some port → port ≤ 65535
+    cases true h =
+        let c = if_true (nat_le 1 v && nat_le v 65535) (Some v) port h in
+        let is : v ≡ port = let e = c.1 in cc in
+        grind (arith, common_steps)
+    cases false h = cc
 
 port_small : (host : List ℕ) (port : ℕ) → port_after host ≡ Some port → port ≤ 65535
 port_small host port h = cases (nat_lt (name_len host) (length host)) h

@@ -4,5 +4,7 @@ pub mod Following
 pub mod Fronts
 pub mod Longest
 pub mod Names
+pub mod OnLiterals
 pub mod Origins
-pub mod Slashes
+mod Rows
+pub mod Serving

@@ -6,11 +6,11 @@ use Rattle.std.proofs.lemmas.Grind.{common_steps}
 use Rattle.acng_base.specs.Paths.{path_refusal}
 use Rattle.acng_base.specs.declared.path.PathFault.{PathFault}
 use Rattle.acng_conf.specs.Settings.{Mirrors}
-use Rattle.acng_remap.specs.Decisions.{deciding, home, group, has_target}
+use Rattle.acng_remap.specs.Decisions.{deciding, group_of, group, has_target}
 use Rattle.acng_remap.specs.Forms.{is_absolute, has, after_start, before_slash, from_slash, has_slash}
 use Rattle.acng_remap.specs.Hosts.{host_port, host_name, host_text}
 use Rattle.acng_conf.specs.Places.{plain_path}
-use Rattle.acng_remap.specs.Readings.{Reading, Gives, HasOrigin, form_of, target_file, prefixed, host_file, hosted, place_file, placed, named_file, named_group, entry_file, own_file, group_file, group_origins, file, file_or, asked, url_of, rest_after}
+use Rattle.acng_remap.specs.Readings.{Reading, Gives, HasOrigin, form_of, target_file, prefixed, host_file, hosted, place_file, placed, named_file, named_group, entry_file, file_outside_groups, group_file, group_origins, file, file_or, asked, url_of, rest_after}
 use Rattle.acng_remap.specs.declared.target.TargetFault.{TargetFault}
 use Rattle.acng_remap.specs.declared.target.TargetFault.TheVariants.{BadTarget, Query}
 
@@ -41,8 +41,8 @@ of_group : (g : Mirrors) (rest place : List ℕ) → Sourced (group_file g rest 
 unfolding group_file
 of_group g rest place = either (length rest == 0) _ _ tt (of_file (g.name ++ 47 ∷ rest) (group_origins g rest place) (some_origin g rest place))
 
-of_own : (place host : List ℕ) → Sourced (own_file place host)
-unfolding own_file
+of_own : (place host : List ℕ) → Sourced (file_outside_groups place host)
+unfolding file_outside_groups
 of_own place host = either (length place == length host) _ _ tt (of_file place (url_of place ∷ []) (omega arith))
 
 of_entry : (groups : List Mirrors) (place entry : List ℕ) (k : Option ℕ) → Sourced (entry_file groups place entry k)
@@ -55,7 +55,7 @@ of_named groups place host (Some k) = either (has_target (group groups k)) _ _ (
 
 of_placed : (groups : List Mirrors) (place host : List ℕ) (port : ℕ) (entry : Option (List ℕ)) → Sourced (placed groups place host port entry)
 of_placed groups place host port None = of_named groups place host (named_group groups host port)
-of_placed groups place host port (Some entry) = of_entry groups place entry (home groups entry)
+of_placed groups place host port (Some entry) = of_entry groups place entry (group_of groups entry)
 
 of_place : (groups : List Mirrors) (place host : List ℕ) (port : ℕ) → Sourced (place_file groups place host port)
 unfolding place_file
@@ -73,7 +73,7 @@ of_host_file groups text = of_hosted groups text (host_port (before_slash text))
 
 of_prefixed : (groups : List Mirrors) (target : List ℕ) (entry : Option (List ℕ)) → Sourced (prefixed groups target entry)
 of_prefixed groups target None = of_host_file groups (after_start target)
-of_prefixed groups target (Some entry) = of_entry groups (plain_path target) entry (home groups entry)
+of_prefixed groups target (Some entry) = of_entry groups (plain_path target) entry (group_of groups entry)
 
 of_target : (groups : List Mirrors) (target : List ℕ) → Sourced (target_file groups target)
 unfolding target_file

@@ -2,7 +2,8 @@
 use Rattle.std.specs.Prelude.{ℕ, Bool, true, false, not, ◌&&◌, ◌==◌, nat_lt, List, [], ◌∷◌, ◌++◌, cond, length, bytes_eq, is_some, slice_index_or, filter, Option, Some, None, option_and_then, slice_index, ◌<◌, ◌≤◌, ◌+◌, ◌≡◌}
 use Rattle.std.specs.List.{starts_with}
 use Rattle.acng_base.specs.Paths.{segments, is_slash}
-use Rattle.acng_conf.specs.Cuts.{begins_with}
+use Rattle.acng_base.specs.Cuts.{slash}
+use Rattle.acng_conf.specs.Lines.{first_is}
 use Rattle.acng_conf.specs.Readings.{owner, new_group}
 use Rattle.acng_conf.specs.Settings.{Mirrors}
 
@@ -29,14 +30,14 @@ has_target g = not (length g.targets == 0)
 
 -- a prefix, which begins with a slash, merges only into a group with a target
 abbrev pub counts : List ℕ → Mirrors → Bool
-counts entry g = not (begins_with 47 entry && not (has_target g))
+counts entry g = not (first_is slash entry && not (has_target g))
 
 abbrev pub if_counts : List ℕ → List Mirrors → ℕ → Option ℕ
 if_counts entry groups k = cond (counts entry (group groups k)) (Some k) None
 
 -- the number of the group into which the entry merges
-unfoldable pub home : List Mirrors → List ℕ → Option ℕ
-home groups entry = option_and_then (λ k. if_counts entry groups k) (owner entry groups)
+unfoldable pub group_of : List Mirrors → List ℕ → Option ℕ
+group_of groups entry = option_and_then (λ k. if_counts entry groups k) (owner entry groups)
 
 -- the entries of all groups
 abbrev pub entries : List Mirrors → List (List ℕ)
@@ -57,7 +58,7 @@ longest [] = None
 longest (e ∷ es) = longer_of e (longest es)
 
 abbrev pub is_candidate : List Mirrors → List ℕ → List ℕ → Bool
-is_candidate groups place entry = fits place entry && is_some (home groups entry)
+is_candidate groups place entry = fits place entry && is_some (group_of groups entry)
 
 -- the entry that decides over a place: of those that fit the one with the most bytes
 unfoldable pub deciding : List Mirrors → List ℕ → Option (List ℕ)

@@ -1,11 +1,13 @@
 -- The forms of a request's target (RFC 9112, section 3.2), with this project's own rules on TLS and the report page.
-use Rattle.std.specs.Prelude.{ℕ, ◌+◌, Bool, ◌||◌, ◌==◌, nat_eq, List, [], ◌∷◌, cond, codes, length, take, drop, Option, Some, None, position, unwrap_or}
-use Rattle.std.specs.List.{list_any, starts_with}
+use Rattle.std.specs.Prelude.{ℕ, ◌+◌, Bool, ◌||◌, ◌==◌, List, [], ◌∷◌, cond, codes, length, take, drop, Option, Some, None, position, unwrap_or}
+use Rattle.std.specs.List.{list_any}
+use Rattle.acng_base.specs.Cuts.{slash, drop_front}
+use Rattle.acng_base.specs.Names.{begins_with}
 use Rattle.acng_base.specs.Paths.{is_slash}
 use Rattle.acng_conf.specs.Keys.{is_named}
 
-abbrev pub begins_with : List ℕ → List ℕ → Bool
-begins_with text front = starts_with nat_eq text front
+abbrev pub question_mark : ℕ
+question_mark = 63
 
 -- letters' case aside, the text begins with this word in small letters
 abbrev pub begins_named : List ℕ → List ℕ → Bool
@@ -30,22 +32,17 @@ has_slash target = begins_with target (codes "/")
 -- what stands behind the report page's name: nothing, or `?` and a query
 abbrev pub query_of : List ℕ → Option (List ℕ)
 query_of [] = Some []
-query_of (b ∷ query) = cond (b == 63) (Some query) None
+query_of (b ∷ query) = cond (b == question_mark) (Some query) None
 
 -- the query of the report page, where the target asks for it
 unfoldable pub page_query : List ℕ → List ℕ → Option (List ℕ)
-page_query page target = cond (begins_with target (47 ∷ page)) (query_of (drop (length page + 1) target)) None
-
--- without the slashes that stand first
-abbrev pub after_slashes : List ℕ → List ℕ
-after_slashes [] = []
-after_slashes (b ∷ bs) = cond (is_slash b) (after_slashes bs) (b ∷ bs)
+page_query page target = cond (begins_with target (slash ∷ page)) (query_of (drop (length page + 1) target)) None
 
 -- what stands behind `http://`, or else behind the first slashes
 unfoldable pub after_start : List ℕ → List ℕ
-after_start target = cond (is_absolute target) (drop 7 target) (after_slashes target)
+after_start target = cond (is_absolute target) (drop 7 target) (drop_front is_slash target)
 
--- where the first slash stands, or the end; what stands before it, and what from there on
+-- the offset of the first slash, or of the end; what stands before it, and what from there on
 abbrev pub slash_at : List ℕ → ℕ
 slash_at text = unwrap_or (position is_slash text) (length text)
 

@@ -2,11 +2,12 @@
 use Rattle.std.specs.Prelude.{ℕ, ◌+◌, Bool, ◌&&◌, ◌==◌, nat_le, nat_lt, List, [], ◌∷◌, ◌++◌, cond, length, take, drop, decimal, Option, Some, None, position, unwrap_or}
 use Rattle.std.specs.List.{list_all}
 use Rattle.std.specs.Str.{str_to_ascii_lowercase}
+use Rattle.acng_base.specs.Cuts.{colon}
 use Rattle.acng_conf.specs.Keys.{is_word_byte}
-use Rattle.acng_conf.specs.Numbers.{number_of}
+use Rattle.acng_conf.specs.Numbers.{number_within}
 
 abbrev pub is_colon : ℕ → Bool
-is_colon b = b == 58
+is_colon b = b == colon
 
 -- where the name ends
 abbrev pub name_len : List ℕ → ℕ
@@ -18,7 +19,7 @@ is_name name = nat_le 1 (length name) && (nat_le (length name) 253 && list_all i
 
 -- 1 to 5 digits with a value from 1 to 65,535
 abbrev pub port_of : List ℕ → Option ℕ
-port_of digits = cond (nat_le (length digits) 5) (number_of 1 65535 digits) None
+port_of digits = number_within 5 1 65535 digits
 
 -- the port behind the name, 80 where none is written
 abbrev pub port_after : List ℕ → Option ℕ
@@ -34,4 +35,4 @@ host_name host = str_to_ascii_lowercase (take (name_len host) host)
 
 -- the canonical text: the port stands where it isn't 80
 unfoldable pub host_text : List ℕ → ℕ → List ℕ
-host_text name port = name ++ cond (port == 80) [] (58 ∷ decimal port)
+host_text name port = name ++ cond (port == 80) [] (colon ∷ decimal port)

@@ -1,14 +1,16 @@
 -- What a request asks for: the path in the cache, and the URLs from which the file may come.
 use Rattle.std.specs.Prelude.{ℕ, ◌+◌, not, ◌||◌, ◌==◌, List, [], ◌∷◌, ◌++◌, cond, codes, length, map, drop, bytes_eq, Option, Some, None, Result, Ok, Err, MatchResult, ◌≡◌, ◌≢◌, ◌≤◌}
 use Rattle.std.specs.Bool.{⊤}
+use Rattle.acng_base.specs.Cuts.{slash}
 use Rattle.acng_base.specs.Paths.{path_refusal}
 use Rattle.acng_base.specs.declared.path.PathFault.TheVariants.{Empty}
 use Rattle.acng_base.specs.declared.path.PathFault.{PathFault}
+use Rattle.acng_conf.specs.Lines.{number_sign}
 use Rattle.acng_conf.specs.Places.{plain_path, escaped_path}
 use Rattle.acng_conf.specs.Readings.{called}
 use Rattle.acng_conf.specs.Settings.{Mirrors, Settings}
-use Rattle.acng_remap.specs.Decisions.{deciding, home, group, has_target}
-use Rattle.acng_remap.specs.Forms.{is_tls, page_query, is_absolute, has_slash, has, after_start, before_slash, from_slash}
+use Rattle.acng_remap.specs.Decisions.{deciding, group_of, group, has_target}
+use Rattle.acng_remap.specs.Forms.{question_mark, is_tls, page_query, is_absolute, has_slash, has, after_start, before_slash, from_slash}
 use Rattle.acng_remap.specs.Hosts.{host_port, host_name, host_text}
 use Rattle.acng_remap.specs.declared.target.Target.{Target}
 use Rattle.acng_remap.specs.declared.target.Target.TheVariants.{File, Page}
@@ -29,7 +31,9 @@ Gives expected result = MatchResult result (λ t. expected ≡ Ok t) (λ fault. 
 
 -- the same of a path alone
 abbrev pub GivesPath : List ℕ → Result (List ℕ) TargetFault → Type 0
-GivesPath text result = MatchResult result (λ path. (path ≡ text) × (path_refusal text ≡ None)) (λ fault. fault ≢ NoMemory → path_or (path_refusal text) text ≡ Err fault)
+GivesPath text result =
+    MatchResult result (λ path. (path ≡ text) × (path_refusal text ≡ None))
+    (λ fault. fault ≢ NoMemory → path_or (path_refusal text) text ≡ Err fault)
   where
     path_or : Option PathFault → List ℕ → Result (List ℕ) TargetFault
     path_or None path = Ok path
@@ -51,7 +55,7 @@ url_of place = codes "http://" ++ escaped_path place
 
 -- a target of a group, and what is asked of it
 abbrev pub asked : List ℕ → List ℕ → List ℕ
-asked rest target = target ++ 47 ∷ escaped_path rest
+asked rest target = target ++ slash ∷ escaped_path rest
 
 -- each target of the group; without one the place itself
 unfoldable pub group_origins : Mirrors → List ℕ → List ℕ → List (List ℕ)
@@ -61,11 +65,11 @@ group_origins g rest place = cond (has_target g) (map (asked rest) g.targets) (u
 
 -- a file of a group
 unfoldable pub group_file : Mirrors → List ℕ → List ℕ → Reading
-group_file g rest place = cond (length rest == 0) (Err (BadPath Empty)) (file (g.name ++ 47 ∷ rest) (group_origins g rest place))
+group_file g rest place = cond (length rest == 0) (Err (BadPath Empty)) (file (g.name ++ slash ∷ rest) (group_origins g rest place))
 
 -- a file of a place that belongs to no group; something must follow the host
-unfoldable pub own_file : List ℕ → List ℕ → Reading
-own_file place host = cond (length place == length host) (Err (BadPath Empty)) (file place (url_of place ∷ []))
+unfoldable pub file_outside_groups : List ℕ → List ℕ → Reading
+file_outside_groups place host = cond (length place == length host) (Err (BadPath Empty)) (file place (url_of place ∷ []))
 
 -- what stands behind a front of the place and the slash after it
 abbrev pub rest_after : List ℕ → List ℕ → List ℕ
@@ -81,11 +85,12 @@ abbrev pub named_group : List Mirrors → List ℕ → ℕ → Option ℕ
 named_group groups host port = cond (port == 80) (called host groups) None
 
 abbrev pub named_file : List Mirrors → List ℕ → List ℕ → Option ℕ → Reading
-named_file groups place host None = own_file place host
-named_file groups place host (Some k) = cond (has_target (group groups k)) (group_file (group groups k) (rest_after host place) place) (Err BadTarget)
+named_file groups place host None = file_outside_groups place host
+named_file groups place host (Some k) =
+    cond (has_target (group groups k)) (group_file (group groups k) (rest_after host place) place) (Err BadTarget)
 
 abbrev pub placed : List Mirrors → List ℕ → List ℕ → ℕ → Option (List ℕ) → Reading
-placed groups place host port (Some entry) = entry_file groups place entry (home groups entry)
+placed groups place host port (Some entry) = entry_file groups place entry (group_of groups entry)
 placed groups place host port None = named_file groups place host (named_group groups host port)
 
 -- the file of a place: its host's canonical text and its port, and then the segments with a slash before each
@@ -106,7 +111,7 @@ unfoldable pub host_file : List Mirrors → List ℕ → Reading
 host_file groups text = hosted groups text (host_port (before_slash text))
 
 abbrev pub prefixed : List Mirrors → List ℕ → Option (List ℕ) → Reading
-prefixed groups target (Some entry) = entry_file groups (plain_path target) entry (home groups entry)
+prefixed groups target (Some entry) = entry_file groups (plain_path target) entry (group_of groups entry)
 prefixed groups target None = host_file groups (after_start target)
 
 -- a path prefix goes before a host
@@ -115,8 +120,8 @@ target_file groups target = prefixed groups target (cond (has_slash target) (dec
 
 abbrev pub form_of : List Mirrors → List ℕ → Reading
 form_of groups target =
-    cond (not (is_absolute target || has_slash target) || has 35 target) (Err BadTarget)
-    (cond (has 63 target) (Err Query) (target_file groups target))
+    cond (not (is_absolute target || has_slash target) || has number_sign target) (Err BadTarget)
+    (cond (has question_mark target) (Err Query) (target_file groups target))
 
 abbrev pub page_or : Option (List ℕ) → Reading → Reading
 page_or (Some query) other = Ok (Page query)

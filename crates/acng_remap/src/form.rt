@@ -1,8 +1,12 @@
 //! The forms of a target.
-ghost use Rattle.std.specs.Prelude.{◌≡◌, ◌≤◌, ◌<◌, ◌&&◌, ◌∷◌, option_map, nat_lt, length, drop, slice_index, position, IsTrue, IfSome};
+ghost use Rattle.std.specs.Prelude.{◌≡◌, ◌≤◌, ◌<◌, ◌∷◌, option_map, length, drop, position, IsTrue, IfSome};
 ghost use Rattle.std.specs.Str.{str_to_ascii_lowercase};
+ghost use Rattle.acng_base.specs.Cuts.{slash};
+ghost use Rattle.acng_base.specs.Names.{begins_with};
 ghost use Rattle.acng_base.specs.Paths.{is_slash};
-ghost use Rattle.acng_remap.specs.Forms.{begins_with, begins_named, has, is_tls, is_absolute, has_slash, query_of, page_query, after_slashes, after_start, slash_at};
+ghost use Rattle.acng_remap.specs.Forms.{begins_named, has, is_tls, is_absolute, has_slash, query_of, page_query, after_start, slash_at};
+
+use acng_base::{Kind, find_byte, trim_start_by};
 
 /// Whether an origin is asked for over TLS.
 #[tactic(auto, unfolding(crate::specs::Forms::is_tls))]
@@ -55,7 +59,7 @@ pub fn page_query<'t>(page: &[u8], target: &'t [u8]) -> Option<&'t [u8]>
 
 // Whether a slash and the page's name stand first.
 fn is_page(page: &[u8], target: &[u8]) -> bool
-    ensures page { result ≡ begins_with target.now (47 ∷ page.now) }
+    ensures page { result ≡ begins_with target.now (slash ∷ page.now) }
     ensures within { IsTrue result → length page.now < length target.now }
 {
     has_slash(target) && target[1..].starts_with(page)
@@ -83,7 +87,7 @@ pub fn after_start(target: &[u8]) -> &[u8]
     if is_absolute(target) {
         after_seven(target)
     } else {
-        after_slashes(target)
+        trim_start_by::<Slash>(target)
     }
 }
 
@@ -96,25 +100,20 @@ fn after_seven(target: &[u8]) -> &[u8]
     &target[7..]
 }
 
-fn after_slashes(target: &[u8]) -> &[u8]
-    ensures { result.now ≡ after_slashes target.now }
-{
-    let mut start = 0;
-    while is_slash_at(target, start) {
-        start += 1;
+/// Slashes.
+struct Slash;
+
+impl Kind for Slash {
+    ghost passes = { is_slash };
+
+    fn has(byte: u8) -> bool {
+        byte == b'/'
     }
-    &target[start..]
 }
 
-fn is_slash_at(text: &[u8], at: usize) -> bool
-    ensures { result ≡ (nat_lt at (length text.now) && is_slash (slice_index text.now at)) }
-{
-    at < text.len() && text[at] == b'/'
-}
-
-/// Where the first slash stands; the length where there is none.
+/// The offset of the first slash; the length where there is none.
 pub fn slash_at(text: &[u8]) -> usize
-    ensures place { result ≡ slash_at text.now }
+    ensures at { result ≡ slash_at text.now }
     ensures within { result ≤ length text.now }
 {
     match next_slash(text) {
@@ -123,10 +122,9 @@ pub fn slash_at(text: &[u8]) -> usize
     }
 }
 
-// The place of the first slash.
 fn next_slash(text: &[u8]) -> Option<usize>
-    ensures place { result ≡ position is_slash text.now }
+    ensures at { result ≡ position is_slash text.now }
     ensures within { IfSome result (λ k. k < length text.now) }
 {
-    text.iter().position(|b| *b == b'/')
+    find_byte(text, b'/')
 }

@@ -1,9 +1,10 @@
 //! Hosts of targets: a name and perhaps a port.
 ghost use Rattle.std.specs.Prelude.{◌≡◌, ◌≤◌, ◌<◌, ◌++◌, ◌∷◌, OnOk, IfSome, length, position, decimal};
 ghost use Rattle.std.specs.Str.{str_to_ascii_lowercase};
+ghost use Rattle.acng_base.specs.Cuts.{colon};
 ghost use Rattle.acng_remap.specs.Hosts.{is_colon, name_len, is_name, port_of, port_after, host_port, host_name, host_text};
 
-use acng_base::NoMemory;
+use acng_base::{NoMemory, find_byte};
 use acng_conf::{are_word_bytes, read_number};
 use itoa::Buffer;
 
@@ -33,7 +34,7 @@ fn port_after(host: &[u8], len: usize) -> Option<u32>
 
 // Where the name ends: at the first colon, or with the text.
 fn name_len(host: &[u8]) -> usize
-    ensures place { result ≡ name_len host.now }
+    ensures at { result ≡ name_len host.now }
     ensures within { result ≤ length host.now }
 {
     match first_colon(host) {
@@ -43,10 +44,10 @@ fn name_len(host: &[u8]) -> usize
 }
 
 fn first_colon(host: &[u8]) -> Option<usize>
-    ensures place { result ≡ position is_colon host.now }
+    ensures at { result ≡ position is_colon host.now }
     ensures within { IfSome result (λ k. k < length host.now) }
 {
-    host.iter().position(|b| *b == b':')
+    find_byte(host, b':')
 }
 
 fn is_name(name: &[u8]) -> bool
@@ -59,10 +60,7 @@ fn is_name(name: &[u8]) -> bool
 fn port_of(digits: &[u8]) -> Option<u32>
     ensures { result ≡ port_of digits.now }
 {
-    if digits.len() > 5 {
-        return None;
-    }
-    read_number(digits, 1, 65_535)
+    read_number(digits, 5, 1, 65_535)
 }
 
 /// Writes a host's canonical text, from the text as it was asked and its port.
@@ -88,7 +86,7 @@ fn push_name(bytes: &mut Vec<u8>, name: &[u8]) -> Result<(), NoMemory>
 }
 
 fn push_port(bytes: &mut Vec<u8>, port: u32) -> Result<(), NoMemory>
-    ensures { OnOk result (bytes.new.items ≡ bytes.old.items ++ 58 ∷ decimal port) }
+    ensures { OnOk result (bytes.new.items ≡ bytes.old.items ++ colon ∷ decimal port) }
 {
     bytes.push(b':')?;
     let mut buffer = Buffer::new();

@@ -8,12 +8,10 @@
 mod decide;
 mod form;
 mod host;
-pub mod law;
+mod law;
 mod read;
-pub mod target;
-#[cfg(test)]
-mod tests;
+mod target;
 
-pub use law::one_path_one_origins;
+pub use law::{one_path_one_origins, origins_serve_targets};
 pub use read::read_target;
 pub use target::{Target, TargetFault};

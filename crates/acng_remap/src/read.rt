@@ -3,11 +3,12 @@
 //! One buffer holds the place while it is looked up, and then becomes the file's path. Beside it a request takes no
 //! memory but that of its origins.
 ghost use Rattle.std.specs.Prelude.{◌≡◌, ◌≢◌, ◌≤◌, ◌<◌, ◌+◌, ◌++◌, ◌∷◌, [], Some, Ok, Err, IfOk, IfErr, IfSome, length, take, drop, map, codes, true};
+ghost use Rattle.acng_base.specs.Cuts.{slash};
 ghost use Rattle.acng_remap.specs.Forms.{is_tls};
 ghost use Rattle.acng_remap.specs.Hosts.{host_name, host_text};
-ghost use Rattle.acng_remap.specs.Readings.{Gives, GivesPath, HasOrigin, reading, form_of, target_file, host_file, of_host, place_file, entry_file, named_file, named_group, own_file, group_file, file, asked, url_of};
+ghost use Rattle.acng_remap.specs.Readings.{Gives, GivesPath, HasOrigin, reading, form_of, target_file, host_file, of_host, place_file, entry_file, named_file, named_group, file_outside_groups, group_file, file, asked, url_of};
 
-use crate::decide::{Decided, decide, has_target};
+use crate::decide::{EntryMatch, has_target, longest_entry};
 use crate::form::{after_start, has, has_slash, is_absolute, is_tls, page_query, slash_at};
 use crate::host::{host_port, push_host};
 use crate::target::{Target, TargetFault};
@@ -52,12 +53,12 @@ fn read_form(alloc: Global, conf: &Conf, target: &[u8]) -> Result<Target, Target
     if has(b'?', target) {
         return Err(TargetFault::Query);
     }
-    read_file(alloc, conf, target)
+    read_place_target(alloc, conf, target)
 }
 
 // A path prefix goes before a host. The room is enough for either place: no more than a slash comes to the target.
 #[tactic(auto, unfolding(crate::specs::Readings::target_file))]
-fn read_file(alloc: Global, conf: &Conf, target: &[u8]) -> Result<Target, TargetFault>
+fn read_place_target(alloc: Global, conf: &Conf, target: &[u8]) -> Result<Target, TargetFault>
     ensures { Gives (target_file conf.now.groups target.now) result }
 {
     let mut room = Vec::with_capacity(alloc, target.len().saturating_add(1))?;
@@ -65,8 +66,8 @@ fn read_file(alloc: Global, conf: &Conf, target: &[u8]) -> Result<Target, Target
         return read_host(alloc, conf, room, after_start(target));
     }
     push_plain(&mut room, target)?;
-    match decide(conf, room.as_slice()) {
-        Some(decided) => entry_file(alloc, conf, room, decided),
+    match longest_entry(conf, room.as_slice()) {
+        Some(found) => entry_file(alloc, conf, room, found),
         None => read_host(alloc, conf, room, after_start(target)),
     }
 }
@@ -114,8 +115,8 @@ fn place_file(
     requires { len ≤ length place.items }
     ensures { Gives (place_file conf.now.groups place.items (take len place.items) port) result }
 {
-    match decide(conf, place.as_slice()) {
-        Some(decided) => entry_file(alloc, conf, place, decided),
+    match longest_entry(conf, place.as_slice()) {
+        Some(found) => entry_file(alloc, conf, place, found),
         None => named_file(alloc, conf, place, len, port),
     }
 }
@@ -125,12 +126,12 @@ fn entry_file(
     alloc: Global,
     conf: &Conf,
     place: Vec<u8>,
-    decided: Decided,
+    found: EntryMatch,
 ) -> Result<Target, TargetFault>
-    requires { (decided.len ≤ length place.items) × (decided.group < length conf.now.groups) }
-    ensures { Gives (entry_file conf.now.groups place.items (take decided.len place.items) (Some decided.group)) result }
+    requires { (found.len ≤ length place.items) × (found.group < length conf.now.groups) }
+    ensures { Gives (entry_file conf.now.groups place.items (take found.len place.items) (Some found.group)) result }
 {
-    group_file(alloc, &conf.groups()[decided.group], place, decided.len)
+    group_file(alloc, &conf.groups()[found.group], place, found.len)
 }
 
 // A group's name is a place too.
@@ -142,7 +143,8 @@ fn named_file(
     port: u32,
 ) -> Result<Target, TargetFault>
     requires { len ≤ length place.items }
-    ensures { Gives (named_file conf.now.groups place.items (take len place.items) (named_group conf.now.groups (take len place.items) port)) result }
+    ensures { Gives (named_file conf.now.groups place.items (take len place.items)
+        (named_group conf.now.groups (take len place.items) port)) result }
 {
     match named_group(conf, &place[..len], port) {
         Some(k) => {
@@ -153,7 +155,7 @@ fn named_file(
                 Err(TargetFault::BadTarget)
             }
         }
-        None => own_file(alloc, place, len),
+        None => file_outside_groups(alloc, place, len),
     }
 }
 
@@ -165,10 +167,10 @@ fn named_group(conf: &Conf, name: &[u8], port: u32) -> Option<usize>
 }
 
 // A file of a place that belongs to no group.
-#[tactic(auto, unfolding(crate::specs::Readings::own_file))]
-fn own_file(alloc: Global, place: Vec<u8>, len: usize) -> Result<Target, TargetFault>
+#[tactic(auto, unfolding(crate::specs::Readings::file_outside_groups))]
+fn file_outside_groups(alloc: Global, place: Vec<u8>, len: usize) -> Result<Target, TargetFault>
     requires { len ≤ length place.items }
-    ensures { Gives (own_file place.items (take len place.items)) result }
+    ensures { Gives (file_outside_groups place.items (take len place.items)) result }
 {
     if place.len() == len {
         return Err(TargetFault::BadPath(PathFault::Empty));
@@ -193,21 +195,22 @@ fn group_file(
         return Err(TargetFault::BadPath(PathFault::Empty));
     }
     if has_target(group) {
-        asked_file(alloc, group, place, len)
+        file_of_targets(alloc, group, place, len)
     } else {
-        lone_file(alloc, group, place, len)
+        file_without_targets(alloc, group, place, len)
     }
 }
 
 // Each target of the group is asked for the rest.
-fn asked_file(
+fn file_of_targets(
     alloc: Global,
     group: &Group,
     place: Vec<u8>,
     len: usize,
 ) -> Result<Target, TargetFault>
     requires { len < length place.items }
-    ensures { Gives (file (group.now.name ++ 47 ∷ drop (len + 1) place.items) (map (asked (drop (len + 1) place.items)) group.now.targets)) result }
+    ensures { Gives (file (group.now.name ++ slash ∷ drop (len + 1) place.items)
+        (map (asked (drop (len + 1) place.items)) group.now.targets)) result }
 {
     let path = path_of(renamed(group.name(), place, len)?)?;
     let rest = behind(path.as_bytes(), group.name());
@@ -216,14 +219,14 @@ fn asked_file(
 }
 
 // Without a target the place itself is asked.
-fn lone_file(
+fn file_without_targets(
     alloc: Global,
     group: &Group,
     place: Vec<u8>,
     len: usize,
 ) -> Result<Target, TargetFault>
     requires { len < length place.items }
-    ensures { Gives (file (group.now.name ++ 47 ∷ drop (len + 1) place.items) (url_of place.items ∷ [])) result }
+    ensures { Gives (file (group.now.name ++ slash ∷ drop (len + 1) place.items) (url_of place.items ∷ [])) result }
 {
     let origins = own_origin(alloc, place.as_slice())?;
     let path = path_of(renamed(group.name(), place, len)?)?;
@@ -233,7 +236,7 @@ fn lone_file(
 // The place with a name and a slash for its front and the byte after it, in the same memory.
 fn renamed(name: &[u8], place: Vec<u8>, len: usize) -> Result<Vec<u8>, NoMemory>
     requires { len < length place.items }
-    ensures { IfOk result (λ path. path.items ≡ name.now ++ 47 ∷ drop (len + 1) place.items) }
+    ensures { IfOk result (λ path. path.items ≡ name.now ++ slash ∷ drop (len + 1) place.items) }
 {
     let mut path = place;
     let rest = path.len() - (len + 1);

@@ -35,4 +35,4 @@ returns-in-None c =
     let place = c.args.place.items in
     let host = take c.args.len place in
     let named : named_group groups host c.args.port ≡ None = search rules in
-    subst (λ (o : Option ℕ). Gives (named_file groups place host o) c.own_file.result) (sym named) c.own_file.ensures
+    subst (λ (o : Option ℕ). Gives (named_file groups place host o) c.file_outside_groups.result) (sym named) c.file_outside_groups.ensures

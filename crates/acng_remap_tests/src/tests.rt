@@ -1,7 +1,7 @@
 //! What no clause says: that the calls succeed with ample memory, and values from outside.
-use crate::{Target, TargetFault, read_target};
 use acng_base::{NoMemory, PathFault, Text, Texts};
 use acng_conf::{Conf, ListFile, read_conf};
+use acng_remap::{Target, TargetFault, read_target};
 use std::alloc::Global;
 use std::process::Abort;
 use std::test::Fail;

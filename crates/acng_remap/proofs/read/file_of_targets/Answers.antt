@@ -5,7 +5,7 @@ use Rattle.std.specs.declared.option.Option.{Option}
 use Rattle.acng_remap.specs.Readings.{file_or, asked}
 use Rattle.acng_remap.specs.declared.target.Target.TheVariants.{File}
 use Rattle.acng_remap.proofs.Following.{rest_of}
-use Rattle.acng_remap.proofs.read.asked_file.Goals as goal
+use Rattle.acng_remap.proofs.read.file_of_targets.Goals as goal
 
 pub returns : goal.returns
 returns c =
