@@ -1,4 +1,4 @@
 pub mod Ascii
-pub mod Cuts
-pub mod Names
+pub mod OnLiterals
+mod Rows
 pub mod Verdicts

@@ -1,36 +1,12 @@
 -- The class of a file, by its path: this project's own rules for the files of a Debian repository.
-use Rattle.std.specs.Prelude.{ℕ, ◌-◌, Bool, false, not, ◌&&◌, ◌||◌, nat_eq, nat_le, List, [], ◌∷◌, length, take, reverse, cond, codes, bytes_eq, slice_index_or, Option}
-use Rattle.std.specs.List.{list_any, list_all, starts_with, ends_with}
+use Rattle.std.specs.Prelude.{ℕ, Bool, false, not, ◌&&◌, ◌||◌, nat_le, List, [], ◌∷◌, cond, codes, bytes_eq, Option}
+use Rattle.std.specs.List.{list_any, list_all}
 use Rattle.std.specs.Option.{option_map_or}
+use Rattle.acng_base.specs.Names.{begins_with, has_ending, from_last, base_name}
 use Rattle.acng_base.specs.Paths.{segments}
 use Rattle.acng_class.specs.Patterns.{found_by}
 use Rattle.acng_class.specs.declared.class.Class.{Class}
 use Rattle.acng_class.specs.declared.class.Class.TheVariants.{Solid, Volatile, Forbidden}
-
--- ---- names
-
-abbrev pub begins_with : List ℕ → List ℕ → Bool
-begins_with text front = starts_with nat_eq text front
-
-abbrev pub has_ending : List ℕ → List ℕ → Bool
-has_ending text ending = ends_with nat_eq text ending
-
--- a segment of a path, counted from the last one; nothing where there are fewer
-abbrev pub from_last : ℕ → List ℕ → List ℕ
-from_last n path = slice_index_or (reverse (segments path)) n []
-
--- the endings of a packed file
-abbrev pub packings : List (List ℕ)
-packings = codes ".gz" ∷ codes ".xz" ∷ codes ".bz2" ∷ codes ".lzma" ∷ codes ".zst" ∷ []
-
--- a name without the first of the endings that it has
-abbrev pub without_ending : List (List ℕ) → List ℕ → List ℕ
-without_ending [] name = name
-without_ending (e ∷ es) name = cond (has_ending name e) (take (length name - length e) name) (without_ending es name)
-
--- the last segment without one ending of a packed file, so that `Packages` and `Packages.xz` are one name
-abbrev pub base_name : List ℕ → List ℕ
-base_name path = without_ending packings (from_last 0 path)
 
 -- ---- the tests of the table
 
@@ -44,7 +20,9 @@ hash_names = codes "MD5Sum" ∷ codes "SHA1" ∷ codes "SHA256" ∷ codes "SHA51
 
 -- a file whose name is the hash of its bytes
 unfoldable pub is_by_hash : List ℕ → Bool
-is_by_hash path = bytes_eq (from_last 2 path) (codes "by-hash") && list_any (bytes_eq (from_last 1 path)) hash_names && list_all is_hex_digit (from_last 0 path)
+is_by_hash path =
+    bytes_eq (from_last 2 path) (codes "by-hash") && list_any (bytes_eq (from_last 1 path)) hash_names
+    && list_all is_hex_digit (from_last 0 path)
 
 -- a difference between two states of an index; the list of them is itself an index
 unfoldable pub is_difference : List ℕ → Bool
@@ -52,19 +30,26 @@ is_difference path = has_ending (from_last 1 path) (codes ".diff") && not (bytes
 
 -- whole names of files that a repository writes anew
 abbrev pub index_names : List (List ℕ)
-index_names = codes "Release" ∷ codes "InRelease" ∷ codes "Release.gpg" ∷ codes "Packages" ∷ codes "Sources" ∷ codes "Index" ∷ codes "ls-lR" ∷ codes "MD5SUMS" ∷ codes "SHA256SUMS" ∷ []
+index_names = codes "Release" ∷ codes "InRelease" ∷ codes "Release.gpg" ∷ codes "Packages" ∷ codes "Sources" ∷ codes "Index"
+    ∷ codes "ls-lR" ∷ codes "MD5SUMS" ∷ codes "SHA256SUMS" ∷ []
 
 -- and how others begin
 abbrev pub index_fronts : List (List ℕ)
 index_fronts = codes "Contents-" ∷ codes "Translation-" ∷ codes "Components-" ∷ codes "Commands-" ∷ codes "icons-" ∷ []
 
+-- a segment begins as an installer's folder does
+abbrev pub has_installer : List ℕ → Bool
+has_installer path = list_any (λ s. begins_with s (codes "installer-")) (segments path)
+
 -- a file that a repository writes anew, or one of an installer's folder
 unfoldable pub is_index : List ℕ → Bool
-is_index path = list_any (bytes_eq (base_name path)) index_names || list_any (begins_with (base_name path)) index_fronts || list_any (λ s. begins_with s (codes "installer-")) (segments path)
+is_index path =
+    list_any (bytes_eq (base_name path)) index_names || list_any (begins_with (base_name path)) index_fronts || has_installer path
 
 -- the endings of files that never change
 abbrev pub solid_endings : List (List ℕ)
-solid_endings = codes ".deb" ∷ codes ".udeb" ∷ codes ".ddeb" ∷ codes ".dsc" ∷ codes ".gz" ∷ codes ".xz" ∷ codes ".bz2" ∷ codes ".lzma" ∷ codes ".zst" ∷ codes ".asc" ∷ codes ".changes" ∷ codes ".buildinfo" ∷ []
+solid_endings = codes ".deb" ∷ codes ".udeb" ∷ codes ".ddeb" ∷ codes ".dsc" ∷ codes ".gz" ∷ codes ".xz" ∷ codes ".bz2" ∷ codes ".lzma"
+    ∷ codes ".zst" ∷ codes ".asc" ∷ codes ".changes" ∷ codes ".buildinfo" ∷ []
 
 unfoldable pub has_solid_ending : List ℕ → Bool
 has_solid_ending path = list_any (has_ending (from_last 0 path)) solid_endings

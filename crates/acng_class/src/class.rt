@@ -9,7 +9,7 @@ use crate::fault::ClassFault;
 use crate::line::{has_solid_ending, is_by_hash, is_difference, is_index};
 use crate::pattern::{Pattern, PatternFault};
 use acng_base::{CachePath, NoMemory};
-use acng_conf::Conf;
+use acng_conf::{Conf, Rules};
 use std::alloc::Global;
 use std::marker::Model;
 use std::str;
@@ -46,7 +46,29 @@ impl Classes {
         ensures solid { IfOk result (λ classes. classes.solid ≡ conf.now.pfile_pattern) }
         ensures volatile { IfOk result (λ classes. classes.volatile ≡ conf.now.vfile_pattern) }
     {
-        match Classes::by_patterns(alloc, conf.pfile_pattern(), conf.vfile_pattern()) {
+        Classes::of_patterns(alloc, conf.pfile_pattern(), conf.vfile_pattern())
+    }
+
+    /// The same with the patterns that were copied from a configuration.
+    pub fn by_rules(alloc: Global, rules: &Rules) -> Result<Classes, NoMemory>
+        ensures solid { IfOk result (λ classes. classes.solid ≡ rules.now.pfile_pattern) }
+        ensures volatile { IfOk result (λ classes. classes.volatile ≡ rules.now.vfile_pattern) }
+    {
+        Classes::of_patterns(alloc, rules.pfile_pattern(), rules.vfile_pattern())
+    }
+
+    // The table with two texts that are patterns.
+    fn of_patterns(
+        alloc: Global,
+        solid: Option<&[u8]>,
+        volatile: Option<&[u8]>,
+    ) -> Result<Classes, NoMemory>
+        requires solid { option_map_or is_pattern (option_copied solid) true ≡ true }
+        requires volatile { option_map_or is_pattern (option_copied volatile) true ≡ true }
+        ensures solid { IfOk result (λ classes. classes.solid ≡ option_copied solid.entry) }
+        ensures volatile { IfOk result (λ classes. classes.volatile ≡ option_copied volatile.entry) }
+    {
+        match Classes::by_patterns(alloc, solid, volatile) {
             Ok(classes) => Ok(classes),
             Err(ClassFault::NoMemory) => Err(NoMemory),
             Err(ClassFault::BadSolid) => unreachable!(),
@@ -64,7 +86,8 @@ impl Classes {
         ensures volatile { IfOk result (λ classes. classes.volatile ≡ option_copied volatile.entry) }
         ensures accepted { OnOk result (pattern_refusal (option_copied solid.entry) (option_copied volatile.entry) ≡ None) }
 
-        ensures refused { IfErr result (λ fault. fault ≢ ClassFault.NoMemory → pattern_refusal (option_copied solid.entry) (option_copied volatile.entry) ≡ Some fault) }
+        ensures refused { IfErr result (λ fault. fault ≢ ClassFault.NoMemory
+            → pattern_refusal (option_copied solid.entry) (option_copied volatile.entry) ≡ Some fault) }
     {
         let solid = build(alloc, solid, ClassFault::BadSolid)?;
         let volatile = build(alloc, volatile, ClassFault::BadVolatile)?;
@@ -109,7 +132,8 @@ fn build(
     requires { bad ≢ ClassFault.NoMemory }
     ensures text { IfOk result (λ pattern. pattern ≡ option_copied source.entry) }
     ensures accepted { OnOk result (option_map_or is_pattern (option_copied source.entry) true ≡ true) }
-    ensures refused { IfErr result (λ fault. fault ≢ ClassFault.NoMemory → (fault ≡ bad) × (option_map_or is_pattern (option_copied source.entry) true ≡ false)) }
+    ensures refused { IfErr result (λ fault. fault ≢ ClassFault.NoMemory
+        → (fault ≡ bad) × (option_map_or is_pattern (option_copied source.entry) true ≡ false)) }
 {
     let Some(source) = source else {
         return Ok(None);

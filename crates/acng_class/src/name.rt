@@ -1,7 +1,8 @@
 //! What a segment's bytes tell.
 ghost use Rattle.std.specs.Prelude.{◌≡◌, bytes_eq};
 ghost use Rattle.std.specs.List.{list_any, list_all};
-ghost use Rattle.acng_class.specs.Classes.{begins_with, has_ending, hash_names, index_fronts, index_names, is_hex_digit, packings, solid_endings, without_ending};
+ghost use Rattle.acng_base.specs.Names.{begins_with, has_ending};
+ghost use Rattle.acng_class.specs.Classes.{hash_names, index_fronts, index_names, is_hex_digit, solid_endings};
 
 pub(crate) fn is_hex(text: &[u8]) -> bool
     ensures { result ≡ list_all is_hex_digit text.now }
@@ -16,28 +17,6 @@ pub(crate) fn is_hash_name(text: &[u8]) -> bool
         || text == b"SHA1".as_slice()
         || text == b"SHA256".as_slice()
         || text == b"SHA512".as_slice()
-}
-
-/// The name without one ending of a packed file.
-pub(crate) fn unpacked(name: &[u8]) -> &[u8]
-    ensures { result.now ≡ without_ending packings name.now }
-{
-    if let Some(base) = name.strip_suffix(b".gz") {
-        return base;
-    }
-    if let Some(base) = name.strip_suffix(b".xz") {
-        return base;
-    }
-    if let Some(base) = name.strip_suffix(b".bz2") {
-        return base;
-    }
-    if let Some(base) = name.strip_suffix(b".lzma") {
-        return base;
-    }
-    if let Some(base) = name.strip_suffix(b".zst") {
-        return base;
-    }
-    name
 }
 
 pub(crate) fn is_index_name(base: &[u8]) -> bool

@@ -1,6 +1,6 @@
 //! The table of classes by its rows: each line on both sides.
-use crate::{Class, ClassFault, Classes};
 use acng_base::CachePath;
+use acng_class::{Class, ClassFault, Classes};
 use acng_conf::read_conf;
 use std::alloc::Global;
 use std::process::Abort;
@@ -247,6 +247,10 @@ fn a_configuration_gives_the_patterns(rt: HostRuntime) -> Result<(), Fail> {
         let mut classes = Classes::of(alloc, &conf).map_err(|_| "memory")?;
         let got = classes.class_of(alloc, &path).map_err(|_| "memory")?;
         assert_eq!(rt; got, class, "{text:?}");
+        let rules = conf.rules(alloc).map_err(|_| "memory")?;
+        let mut copied = Classes::by_rules(alloc, &rules).map_err(|_| "memory")?;
+        let again = copied.class_of(alloc, &path).map_err(|_| "memory")?;
+        assert_eq!(rt; again, class, "{text:?}");
     }
     Ok(())
 }

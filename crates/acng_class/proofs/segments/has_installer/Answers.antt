@@ -2,8 +2,8 @@ use Rattle.std.proofs.Common.{codes, rules, tests}
 use Rattle.std.proofs.lemmas.Iterator.Search.{any_from_yields_List}
 use Rattle.std.proofs.lemmas.Iterator.Splits.{YieldsList-from_slice_split}
 use Rattle.acng_base.specs.Paths.{is_slash}
-use Rattle.acng_class.specs.Classes.{begins_with}
-use Rattle.acng_class.proofs.cut.has_installer.Goals as goal
+use Rattle.acng_base.specs.Names.{begins_with}
+use Rattle.acng_class.proofs.segments.has_installer.Goals as goal
 
 pub returns : goal.returns
 returns c =
