@@ -15,7 +15,7 @@ use Rattle.httparse.specs.declared.spans.Span.{Span}
 use Rattle.httparse.specs.Grammar.{ResponseHead, ReadsResponse}
 use Rattle.httparse.specs.Spans.{IsResponseWithin, IsResponseOf, header_bytes, span_bytes, name_and_value}
 use Rattle.acng_base.specs.Heads.{head_of}
-use Rattle.acng_base.specs.Answers.{length_of}
+use Rattle.acng_base.specs.Fields.{length_of}
 use Rattle.acng_base.proofs.HeadLemmas.{head_reads, no_head}
 use Rattle.acng_answer.specs.declared.framing.Named.{Named}
 use Rattle.acng_answer.specs.declared.framing.Named.TheVariants.{Absent, Once, Repeated}

@@ -10,7 +10,8 @@ use Rattle.acng_base.specs.declared.block.Mark.{Mark}
 use Rattle.acng_base.specs.declared.block.Mark.TheVariants.{Before}
 use Rattle.acng_base.specs.Lines.{block_len, mark_after}
 use Rattle.acng_base.specs.Heads.{Head, head_of}
-use Rattle.acng_base.specs.Answers.{Outcome, Whole, Early, Open, Bad, Reading, nothing, after_body, after_head, counted_body, heads, within, from_head, on_head, framing, Counted}
+use Rattle.acng_base.specs.Answers.{Outcome, Whole, Early, Open, Bad, Reading, nothing, after_body, after_head, counted_body, within}
+use Rattle.acng_base.specs.First.{heads, from_head, on_head, framing, Counted}
 use Rattle.acng_base.proofs.Scans.{goes_on, block_stays, block_append, mark_append}
 use Rattle.acng_answer.specs.declared.framing.Framed.{Framed}
 use Rattle.acng_answer.specs.declared.stage.End.{End}

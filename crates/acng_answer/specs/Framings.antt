@@ -4,7 +4,7 @@ use Rattle.httparse.specs.declared.spans.HeaderSpan.{HeaderSpan}
 use Rattle.httparse.specs.declared.spans.ResponseSpans.{ResponseSpans}
 use Rattle.httparse.specs.Spans.{IsWithin, header_bytes, span_bytes}
 use Rattle.acng_base.specs.Heads.{Head}
-use Rattle.acng_base.specs.Answers.{Counted, framing}
+use Rattle.acng_base.specs.First.{Counted, framing}
 use Rattle.acng_answer.specs.declared.framing.Framed.{Framed}
 use Rattle.acng_answer.specs.declared.framing.Named.{Named}
 use Rattle.acng_answer.specs.declared.framing.Named.TheVariants.{Absent, Once, Repeated}

@@ -3,7 +3,8 @@ use Rattle.std.specs.Prelude.{◌≡◌, ℕ, ◌+◌, ◌-◌, ◌^◌, ◌<◌
 use Rattle.acng_base.specs.declared.block.Mark.TheVariants.{Before}
 use Rattle.acng_base.specs.Lines.{mark_after}
 use Rattle.acng_base.specs.Heads.{Head}
-use Rattle.acng_base.specs.Answers.{Framing, Counted, framing, Outcome, Whole, Early, Bad, Reading, nothing, wants_more, after_head, after_body, counted_body, from_head, within}
+use Rattle.acng_base.specs.Answers.{Outcome, Whole, Early, Bad, Reading, nothing, wants_more, after_head, after_body, counted_body, within}
+use Rattle.acng_base.specs.First.{Framing, Counted, framing, from_head}
 use Rattle.acng_answer.specs.declared.stage.End.{End}
 use Rattle.acng_answer.specs.declared.stage.End.TheVariants as ends
 use Rattle.acng_answer.specs.declared.stage.Stage.{Stage}

@@ -11,7 +11,8 @@ ghost use Rattle.std.specs.Str.Parse.{digits_value};
 ghost use Rattle.httparse.specs.Grammar.{ResponseHead, ReadsResponse};
 ghost use Rattle.httparse.specs.Spans.{IsResponseWithin, IsResponseOf, IsHeaderWithin, IsWithin, header_bytes, span_bytes};
 ghost use Rattle.acng_base.specs.Heads.{head_of, values};
-ghost use Rattle.acng_base.specs.Answers.{Counted, by_fields, length_of};
+ghost use Rattle.acng_base.specs.Fields.{length_of};
+ghost use Rattle.acng_base.specs.First.{Counted, by_fields};
 ghost use Rattle.acng_answer.specs.Framings.{AreNamed, IsHeadAt, IsFramed};
 
 use httparse::Status;

@@ -3,7 +3,8 @@
 //! What always holds: the place of the next byte is at most the limit, the limit is at most 2^41 bytes, and the bytes
 //! that are held are those of a head that hasn't ended, fewer than 16,384, for which there is room from the start on.
 ghost use Rattle.std.specs.Prelude.{◌≡◌, ℕ, ◌+◌, ◌^◌, ◌<◌, ◌≤◌, Bool, List, [], Some, None, IfOk, IfSome, IfNone, length, option_copied, true, false};
-ghost use Rattle.acng_base.specs.Answers.{Open, nothing, reading, answer_limit};
+ghost use Rattle.acng_base.specs.Answers.{Open, nothing, answer_limit};
+ghost use Rattle.acng_base.specs.First.{reading};
 ghost use Rattle.acng_answer.specs.Reader.{Tells, Progresses, KeepsHead, Stops, IsOver};
 
 use crate::stage::{End, ROOM, Stage, end_of, front, stage_step};

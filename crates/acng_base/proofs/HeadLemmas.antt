@@ -12,7 +12,7 @@ use Rattle.httparse.specs.Grammar.{LineEnd, crlf, lf, print_end, print_blank, pr
 use Rattle.httparse.specs.Spans.{name_and_value}
 use Rattle.httparse.proofs.GrammarLemmas.{print_response-append}
 use Rattle.acng_base.specs.Lines.{lines, with_byte}
-use Rattle.acng_base.specs.Heads.{Head, head_of, response_of, guess, fields_of, at_colon, reason_of, is_field, is_response_head}
+use Rattle.acng_base.specs.Heads.{Head, head_of, response_of, guess, fields_of, at_byte, reason_of, is_field, is_response_head}
 
 -- ---- lines
 
@@ -77,7 +77,7 @@ digit_plain b h = plain_from b (other_byte is_ascii_digit 10 b refl h) (other_by
 
 -- ---- fields
 
-pub colon_parts : (name raw : List ℕ) → list_all is_token_byte name ≡ true → at_colon (name ++ 58 ∷ raw) ≡ (name, raw)
+pub colon_parts : (name raw : List ℕ) → list_all is_token_byte name ≡ true → at_byte 58 (name ++ 58 ∷ raw) ≡ (name, raw)
 colon_parts [] raw h = refl
 colon_parts (b ∷ name) raw h =
     let parts = and_parts (is_token_byte b) (list_all is_token_byte name) h in

@@ -1,3 +1,4 @@
+mod AnswerRows
 pub mod BlockLines
 pub mod Buffered
 pub mod Cutting
@@ -6,6 +7,7 @@ mod Endings
 pub mod Folders
 pub mod HeadLemmas
 pub mod Ranges
+pub mod Readings
 mod Rows
 pub mod Scans
 pub mod Searches

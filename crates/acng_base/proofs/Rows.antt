@@ -2,7 +2,8 @@
 use Rattle.std.proofs.Common.{◌≡◌, ℕ, ◌^◌, true, false, List, [], ◌∷◌, ◌++◌, Some, None, codes, refl}
 use Rattle.httparse.specs.Grammar.{is_token_byte, print_response, trim_ows}
 use Rattle.acng_base.specs.Heads.{Head}
-use Rattle.acng_base.specs.Answers.{Whole, Early, Open, Bad, reading}
+use Rattle.acng_base.specs.Answers.{Whole, Early, Open, Bad}
+use Rattle.acng_base.specs.First.{reading}
 
 abbrev end : List ℕ
 end = 13 ∷ 10 ∷ []

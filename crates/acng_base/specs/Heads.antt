@@ -12,13 +12,13 @@ pub record Head : Type 0 where
   pub status : ℕ
   pub fields : List (List ℕ × List ℕ)
 
--- what stands before the first colon, and after it
-abbrev pub at_colon : List ℕ → List ℕ × List ℕ
-at_colon [] = ([], [])
-at_colon (b ∷ bs) = let rest = at_colon bs in cond (b == 58) ([], bs) (b ∷ rest.0, rest.1)
+-- what stands before the first such byte, and after it; all, where there is none
+abbrev pub at_byte : ℕ → List ℕ → List ℕ × List ℕ
+at_byte c [] = ([], [])
+at_byte c (b ∷ bs) = let rest = at_byte c bs in cond (b == c) ([], bs) (b ∷ rest.0, rest.1)
 
 abbrev pub field_of : List ℕ → LineEnd → Field
-field_of line e = let parts = at_colon line in record { name = parts.0; raw = parts.1; end = e }
+field_of line e = let parts = at_byte 58 line in record { name = parts.0; raw = parts.1; end = e }
 
 -- the field lines before the first empty line, and its end
 abbrev pub fields_of : List (List ℕ × LineEnd) → List Field × LineEnd

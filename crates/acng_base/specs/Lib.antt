@@ -2,6 +2,9 @@ pub mod Answers
 pub mod Buffers
 pub mod Causes
 pub mod Cuts
+pub mod Fields
+pub mod First
+pub mod Framings
 pub mod Heads
 pub mod Lines
 pub mod Moments
@@ -9,4 +12,5 @@ pub mod Names
 pub mod Numbers
 pub mod Paths
 pub mod Pipes
+pub mod SizeLines
 pub mod Tags

@@ -3,7 +3,7 @@ ghost use Rattle.std.specs.Prelude.{◌≡◌, ◌≤◌, ◌<◌, ◌^◌, true
 ghost use Rattle.std.specs.List.{list_all};
 ghost use Rattle.std.specs.Char.{is_ascii_digit};
 ghost use Rattle.std.specs.Str.Parse.{digits_value};
-ghost use Rattle.acng_base.specs.Answers.{length_of};
+ghost use Rattle.acng_base.specs.Fields.{length_of};
 ghost use Rattle.acng_base.specs.Numbers.{number_of};
 
 /// The most bytes of an answer's body and of a file that an index names.

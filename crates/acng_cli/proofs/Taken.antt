@@ -4,7 +4,8 @@ use borrow.Author.Tests.{eqb-true}
 use Rattle.acng_base.specs.declared.block.Mark.TheVariants.{Before}
 use Rattle.acng_base.specs.Lines.{block_len}
 use Rattle.acng_base.specs.Heads.{Head, head_of, values}
-use Rattle.acng_base.specs.Answers.{Framing, Counted, Reading, reading, on_limit, from_head, heads, on_block, on_head, framed, framing, by_fields}
+use Rattle.acng_base.specs.Answers.{Reading, on_limit}
+use Rattle.acng_base.specs.First.{Framing, Counted, reading, from_head, heads, on_block, on_head, framed, framing, by_fields}
 
 abbrev pub IsTakenHead : Reading → Type 0
 IsTakenHead r = (h : Head) → r.head ≡ Some h → h.status ≡ 200

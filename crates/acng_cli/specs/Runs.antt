@@ -1,6 +1,7 @@
 -- What one attempt's answer makes of the reply, and what a whole run says.
 use Rattle.std.specs.Prelude.{◌≡◌, ◌⊎◌, ℕ, Bool, true, not, List, Option, None}
-use Rattle.acng_base.specs.Answers.{Reading, reading, answer_limit}
+use Rattle.acng_base.specs.Answers.{Reading, answer_limit}
+use Rattle.acng_base.specs.First.{reading}
 use Rattle.acng_site.specs.declared.ask.Ask.{Ask}
 use Rattle.acng_cli.specs.declared.note.Note.{Note}
 use Rattle.acng_cli.specs.declared.refusal.Refusal.TheVariants as refusal

@@ -1,9 +1,10 @@
 -- What an honest answer is, held against literal readings.
 use Rattle.std.proofs.Common.{◌≡◌, List, ℕ, [], ◌∷◌, Some, codes, length, refl, subst, arith}
 use Rattle.acng_base.specs.Heads.{Head}
-use Rattle.acng_base.specs.Answers.{Reading, Outcome, framing}
+use Rattle.acng_base.specs.Answers.{Reading, Outcome}
+use Rattle.acng_base.specs.First.{framing}
 use Rattle.acng_base.specs.Answers.Outcome.{Whole, Early}
-use Rattle.acng_base.specs.Answers.Framing.{Counted}
+use Rattle.acng_base.specs.First.Framing.{Counted}
 use Rattle.acng_site.specs.Honest.{IsHonestAnswer}
 
 abbrev head : Head

@@ -3,7 +3,8 @@ use Rattle.std.proofs.Common.{◌≡◌, ℕ, ◌^◌, Bool, true, false, not, L
 use Rattle.std.proofs.lemmas.Slice.Eq.{bytes_eq-Decides}
 use Rattle.httparse.specs.Grammar.{is_token_byte, print_response, trim_ows}
 use Rattle.acng_base.specs.Heads.{Head}
-use Rattle.acng_base.specs.Answers.{Whole, Open, Counted, framing, reading}
+use Rattle.acng_base.specs.Answers.{Whole, Open}
+use Rattle.acng_base.specs.First.{Counted, framing, reading}
 use Rattle.acng_site.specs.declared.site.Site.{Ghosts as SiteGhosts}
 use Rattle.acng_site.specs.Honest.{IsHonest, IsHonestAnswer}
 

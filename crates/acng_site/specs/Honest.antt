@@ -1,9 +1,10 @@
 -- What an honest site is, for the answers that are taken so far: those of status 200 with a counted body.
 use Rattle.std.specs.Prelude.{◌≡◌, ℕ, true, not, List, length, take, Some}
 use Rattle.acng_base.specs.Heads.{Head}
-use Rattle.acng_base.specs.Answers.{Reading, reading, framing, answer_limit}
+use Rattle.acng_base.specs.Answers.{Reading, answer_limit}
+use Rattle.acng_base.specs.First.{reading, framing}
 use Rattle.acng_base.specs.Answers.Outcome.{Whole}
-use Rattle.acng_base.specs.Answers.Framing.{Counted}
+use Rattle.acng_base.specs.First.Framing.{Counted}
 use Rattle.acng_site.specs.declared.ask.Ask.{Ask}
 use Rattle.acng_site.specs.declared.site.Site.{Ghosts as SiteGhosts}
 

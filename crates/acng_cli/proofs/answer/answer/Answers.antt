@@ -1,5 +1,6 @@
 use Rattle.std.proofs.Common.{◌∙◌, ap, sym, refl, subst, inl, inr, not, []}
-use Rattle.acng_base.specs.Answers.{nothing, Open, reading, answer_limit}
+use Rattle.acng_base.specs.Answers.{nothing, Open, answer_limit}
+use Rattle.acng_base.specs.First.{reading}
 use Rattle.acng_cli.specs.declared.refusal.Refusal.TheVariants.{Load}
 use Rattle.acng_cli.specs.declared.note.Shown.TheVariants.{Origin}
 use Rattle.acng_cli.specs.Replies.{Sends, refused}
