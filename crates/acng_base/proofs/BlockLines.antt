@@ -80,7 +80,7 @@ cr_before (c ∷ cs) h again = cases (c == 10) refl
         ap more (same ∙ h) ∙ sym (inside_with 13 (lines (c ∷ cs))) ∙ sym later
 
 -- inside a line, and between two lines
-inside_and_between : (bs : List ℕ) → (block_len Inside bs ≡ inside_len (lines bs)) × (block_len Between bs ≡ through_empty (lines bs))
+pub inside_and_between : (bs : List ℕ) → (block_len Inside bs ≡ inside_len (lines bs)) × (block_len Between bs ≡ through_empty (lines bs))
 inside_and_between [] = (refl, refl)
 inside_and_between (b ∷ bs) = let again = inside_and_between bs in (inside (b == 10) again refl, between (b == 10) (b == 13) again refl refl)
   where
@@ -96,7 +96,7 @@ inside_and_between (b ∷ bs) = let again = inside_and_between bs in (inside (b 
     between false false again e f = rw (e, f) (ap more again.0 ∙ sym (inside_with b (lines bs)) ∙ sym (solid b (lines bs) f).0)
 
 -- at the start of a head
-before : (bs : List ℕ) → block_len Before bs ≡ through_head (lines bs)
+pub before : (bs : List ℕ) → block_len Before bs ≡ through_head (lines bs)
 before [] = refl
 before (b ∷ []) = one (b == 10) (b == 13) refl refl
   where

@@ -12,7 +12,8 @@ pub record IsFilled {E : Type 0} (did : Result ℕ E → List ℕ → Type 0) (o
   pub held : MatchResult result (λ n. (n ≤ length room) × (new ≡ old ++ take n room)) (λ _. new ≡ old)
 
 -- what a link's read did
-pub record LinkRead {E : Type 0} (left rest written kept : Option (List ℕ)) (before now : ℕ) (result : Result ℕ E) (room : List ℕ) : Type 0 where
+pub record LinkRead {E : Type 0} (left rest written kept : Option (List ℕ)) (before now : ℕ) (result : Result ℕ E) (room : List ℕ)
+    : Type 0 where
   pub bytes : ReadConsumes left rest result room
   pub others : Keeps written kept
   pub cause : HasCause before now result
@@ -26,4 +27,6 @@ pub record Moves (old new : List ℕ) (left rest : Option (List ℕ)) : Type 0 w
 -- a read adds what the link gave, and none only at its end; a failed one changes nothing
 abbrev pub Fills : {E : Type 0} → List ℕ → List ℕ → Option (List ℕ) → Option (List ℕ) → Result ℕ E → Type 0
 Fills old new left rest result =
-    MatchResult result (λ n. Moves old new left rest × (length new ≡ length old + n) × (n ≡ 0 → IsAtEnd rest)) (λ _. (new ≡ old) × Keeps left rest)
+    MatchResult result
+    (λ n. Moves old new left rest × (length new ≡ length old + n) × (n ≡ 0 → IsAtEnd rest))
+    (λ _. (new ≡ old) × Keeps left rest)

@@ -1,6 +1,7 @@
 -- Lines, and the blocks of lines that end at an empty one (RFC 9112, section 2.2).
 use Rattle.std.specs.Prelude.{◌≡◌, ◌<◌, ◌≤◌, length, ℕ, ◌+◌, List, [], ◌∷◌, Option, Some, None, option_map, option_and_then, ◌==◌, cond}
 use Rattle.httparse.specs.Grammar.{LineEnd, crlf, lf, print_end}
+use Rattle.acng_base.specs.Cuts.{carriage_return, line_feed}
 use Rattle.acng_base.specs.declared.block.Scan.{Scan}
 use Rattle.acng_base.specs.declared.block.Scan.TheVariants.{End, Incomplete}
 use Rattle.acng_base.specs.declared.block.LineState.{LineState}
@@ -9,14 +10,14 @@ use Rattle.acng_base.specs.declared.block.LineState.TheVariants.{Before, BeforeC
 -- a byte before the lines that follow: a line feed ends a line, and a carriage return right before it belongs to the end
 abbrev pub with_byte : ℕ → List (List ℕ × LineEnd) → List (List ℕ × LineEnd)
 with_byte b [] = []
-with_byte b (([], lf) ∷ ls) = cond (b == 13) (([], crlf) ∷ ls) ((b ∷ [], lf) ∷ ls)
+with_byte b (([], lf) ∷ ls) = cond (b == carriage_return) (([], crlf) ∷ ls) ((b ∷ [], lf) ∷ ls)
 with_byte b (([], crlf) ∷ ls) = (b ∷ [], crlf) ∷ ls
 with_byte b ((c ∷ line, e) ∷ ls) = (b ∷ c ∷ line, e) ∷ ls
 
 -- the lines of a text, each with its end; bytes after the last line feed are no line
 abbrev pub lines : List ℕ → List (List ℕ × LineEnd)
 lines [] = []
-lines (b ∷ bs) = cond (b == 10) (([], lf) ∷ lines bs) (with_byte b (lines bs))
+lines (b ∷ bs) = cond (b == line_feed) (([], lf) ∷ lines bs) (with_byte b (lines bs))
 
 -- the bytes of a line and of its end
 abbrev pub line_len : List ℕ × LineEnd → ℕ

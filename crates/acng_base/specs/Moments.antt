@@ -2,6 +2,10 @@
 use Rattle.std.specs.Prelude.{◌≡◌, ℕ, List, [], ◌∷◌, ⊤, None, Some}
 use Rattle.std.specs.declared.option.Option.{Option}
 
+-- the first moment of the year 10000, which no HTTP date names
+abbrev pub moment_limit : ℕ
+moment_limit = 253402300800
+
 -- the list that follows: the first moment goes where others follow, so the last one repeats
 abbrev pub after_tick : List ℕ → List ℕ
 after_tick [] = []

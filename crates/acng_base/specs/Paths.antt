@@ -2,6 +2,7 @@
 use Rattle.std.specs.Prelude.{ℕ, ◌+◌, Bool, not, ◌&&◌, ◌||◌, ◌==◌, nat_le, nat_lt, List, [], ◌∷◌, length, cond, codes, bytes_eq, Option, Some, None, option_map}
 use Rattle.std.specs.List.{slice_split, position}
 use Rattle.std.specs.Option.{option_or}
+use Rattle.acng_base.specs.Cuts.{slash}
 use Rattle.acng_base.specs.declared.path.PathFault.{PathFault}
 use Rattle.acng_base.specs.declared.path.PathFault.TheVariants.{NoMemory, Empty, TooLong, BadByte, BadSegment}
 
@@ -10,7 +11,7 @@ abbrev pub is_path_byte : ℕ → Bool
 is_path_byte b = nat_le 0x21 b && nat_le b 0x7E
 
 abbrev pub is_slash : ℕ → Bool
-is_slash b = b == 47
+is_slash b = b == slash
 
 -- the parts of a path between its slashes
 abbrev pub segments : List ℕ → List (List ℕ)

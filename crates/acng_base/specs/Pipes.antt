@@ -1,5 +1,5 @@
 -- A link over memory, as contracts see it, and what each of its calls does.
-use Rattle.std.specs.Prelude.{◌≡◌, ◌≤◌, ℕ, ◌+◌, ◌-◌, Bool, true, false, ◌||◌, ◌==◌, min, List, ◌++◌, length, take, drop, MatchResult, Result}
+use Rattle.std.specs.Prelude.{◌≡◌, ◌≤◌, ℕ, ◌+◌, ◌-◌, Bool, true, false, ◌||◌, ◌==◌, min, List, [], ◌++◌, length, take, drop, MatchResult, Result}
 use Rattle.std.specs.List.{list_any}
 use Rattle.acng_base.specs.Causes.{one_more}
 
@@ -24,15 +24,15 @@ fails p = list_any (λ k. k == p.calls) p.fail
 
 -- the pipe after a call that failed: no byte moved, and the fault is counted
 abbrev pub after_fault : Pipe → Pipe
-after_fault p = record { left = p.left; written = p.written; room = p.room; cut = p.cut; calls = one_more p.calls; fail = p.fail; faults = one_more p.faults }
+after_fault p = record p { calls = one_more p.calls; faults = one_more p.faults }
 
 -- the pipe after a read of n bytes
 abbrev pub after_read : Pipe → ℕ → Pipe
-after_read p n = record { left = drop n p.left; written = p.written; room = p.room; cut = p.cut; calls = one_more p.calls; fail = p.fail; faults = p.faults }
+after_read p n = record p { left = drop n p.left; calls = one_more p.calls }
 
 -- the pipe after these bytes were written
 abbrev pub after_write : Pipe → List ℕ → Pipe
-after_write p bytes = record { left = p.left; written = p.written ++ bytes; room = p.room - length bytes; cut = p.cut; calls = one_more p.calls; fail = p.fail; faults = p.faults }
+after_write p bytes = record p { written = p.written ++ bytes; room = p.room - length bytes; calls = one_more p.calls }
 
 -- a read into a buffer of a length gives as many bytes as are left, fit, and are at most the cut
 abbrev pub ReadsAs : {E : Type 0} → Pipe → Pipe → ℕ → Result ℕ E → Type 0
@@ -47,6 +47,10 @@ WritesAs old new piece result =
     MatchResult result
     (λ n. ((fails old || old.room == 0) ≡ false) × (n ≡ min (min (length piece) old.cut) old.room) × (new ≡ after_write old (take n piece)))
     (λ _. ((fails old || old.room == 0) ≡ true) × (new ≡ after_fault old))
+
+-- a pipe of which nothing was used yet
+abbrev pub fresh : List ℕ → ℕ → ℕ → List ℕ → Pipe
+fresh input room cut fail = record { left = input; written = []; room = room; cut = cut; calls = 0; fail = fail; faults = 0 }
 
 -- what a link over memory keeps: a place within its input, a cut, and memory for all that it may write
 pub record IsSound (at input cut output room capacity : ℕ) : Type 0 where

@@ -34,7 +34,8 @@ pub struct ByLink;
 impl<L: Link> Reads<L> for ByLink {
     type Fault = Failed;
 
-    ghost did = { λ old new result room. LinkRead (L.left old) (L.left new) (L.written old) (L.written new) (L.faults old) (L.faults new) result room };
+    ghost did = { λ old new result room.
+        LinkRead (L.left old) (L.left new) (L.written old) (L.written new) (L.faults old) (L.faults new) result room };
 
     fn read(link: &mut L, room: &mut [u8]) -> Result<usize, Failed> {
         link.read(room)

@@ -12,6 +12,11 @@ use std::time::Clock as TimeSource;
 #[derive(Clone, Copy, Debug, PartialEq, Eq, PartialOrd, Ord)]
 pub struct Moment(pub u64);
 
+impl Moment {
+    /// The first moment of the year 10000, which no HTTP date names.
+    pub const LIMIT: u64 = 253_402_300_800;
+}
+
 /// A clock, which may go back and never fails.
 pub trait Clock {
     /// The moments to come, where they are known. The list is never empty, and its last moment repeats.

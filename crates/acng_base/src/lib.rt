@@ -13,6 +13,7 @@ mod clock;
 mod fault;
 mod files;
 mod hash;
+mod limit;
 mod line;
 mod link;
 mod memory;
@@ -31,6 +32,7 @@ pub use clock::{Clock, FixedClock, HostClock, Moment};
 pub use fault::{Failed, NoMemory};
 pub use files::{FileFault, named};
 pub use hash::Hash;
+pub use limit::{MOST_BYTES, MOST_FIELDS, MOST_HEAD};
 pub use line::{
     Blank, BlankOrCr, Kind, next_line_feed, trim, trim_by, trim_end_by, trim_start_by, without_cr,
     words, words_by,
@@ -38,12 +40,9 @@ pub use line::{
 pub use link::{Link, send_all, send_counted};
 pub use memory::MemoryLink;
 pub use name::{base_name, cut_last, last_segment, unpacked};
-pub use number::{MOST_BYTES, are_digits, read_digits, read_length};
+pub use number::{are_digits, read_digits, read_length};
 pub use path::{CachePath, PathFault};
 pub use stdio::{StdLink, StdSink, StdSource};
 pub use stream::{MemorySink, MemorySource, Sink, Source, write_all};
 pub use tag::Tag;
 pub use text::{Text, Texts};
-
-#[cfg(test)]
-mod tests;

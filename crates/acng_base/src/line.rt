@@ -1,6 +1,7 @@
 //! Lines and words: what the ends of a text lose, and where its next line or word ends.
 ghost use Rattle.std.specs.Prelude.{◌≡◌, ◌≤◌, ◌<◌, ◌++◌, ◌&&◌, Bool, ℕ, IfOk, OnOk, length, position, nat_lt, slice_index, not};
-ghost use Rattle.acng_base.specs.Cuts.{is_blank, is_blank_or_cr, is_cr, is_lf, is_before, drop_end, drop_front, some_word, trim, trim_by, without_cr, words, words_by};
+ghost use Rattle.acng_base.specs.Cuts.{is_blank, is_blank_or_cr, is_cr, is_lf, is_before, drop_end, drop_front, trim, trim_by};
+ghost use Rattle.acng_base.specs.Cuts.{some_word, without_cr, words, words_by};
 
 use crate::bytes::find_byte;
 use crate::fault::NoMemory;

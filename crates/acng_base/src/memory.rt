@@ -7,7 +7,7 @@ ghost use Rattle.std.specs.declared.option.Option.{Option};
 ghost use Rattle.std.specs.Io.{ReadsAtMost, WritesAtMost};
 ghost use Rattle.std.specs.Io.KnownBytes.{ReadConsumes, WriteAppends, Keeps};
 ghost use Rattle.acng_base.specs.Causes.{HasCause, one_more};
-ghost use Rattle.acng_base.specs.Pipes.{Pipe, fails, ReadsAs, WritesAs};
+ghost use Rattle.acng_base.specs.Pipes.{Pipe, fails, fresh, ReadsAs, WritesAs};
 
 use crate::bytes::copy_at_most;
 use crate::fault::{Failed, NoMemory};
@@ -34,7 +34,15 @@ impl Model for MemoryLink {
 
     ghost Value = { Pipe };
 
-    ghost view = { λ l. record { left = drop l.at l.input.items; written = l.output.items; room = l.room; cut = l.cut; calls = l.calls; fail = l.fail.items; faults = l.faults } };
+    ghost view = { λ l. record {
+      left = drop l.at l.input.items;
+      written = l.output.items;
+      room = l.room;
+      cut = l.cut;
+      calls = l.calls;
+      fail = l.fail.items;
+      faults = l.faults;
+    } };
 
     ghost invariant = { λ l. IsSound l.at (length l.input.items) l.cut (length l.output.items) l.room (vec_capacity l.output) };
 }
@@ -50,7 +58,7 @@ impl MemoryLink {
         fail: &[u64],
     ) -> Result<MemoryLink, NoMemory>
         requires { 1 ≤ cut }
-        ensures { IfOk result (λ link. link ≡ record { left = input.now; written = []; room = room; cut = cut; calls = 0; fail = fail.now; faults = 0 }) }
+        ensures { IfOk result (λ link. link ≡ fresh input.now room cut fail.now) }
     {
         Ok(MemoryLink {
             input: Vec::from_slice(alloc, input)?,

@@ -6,8 +6,7 @@ ghost use Rattle.std.specs.Str.Parse.{digits_value};
 ghost use Rattle.acng_base.specs.Fields.{length_of};
 ghost use Rattle.acng_base.specs.Numbers.{number_of};
 
-/// The most bytes of an answer's body and of a file that an index names.
-pub const MOST_BYTES: u64 = 1 << 41;
+use crate::limit::MOST_BYTES;
 
 /// The most digits of a length, leading zeros among them.
 const MOST_LENGTH_DIGITS: usize = 13;

@@ -5,7 +5,7 @@ ghost use Rattle.std.specs.declared.option.Option.{Option};
 ghost use Rattle.std.specs.Io.{ReadsAtMost, WritesAtMost};
 ghost use Rattle.std.specs.Io.KnownBytes.{ReadConsumes, WriteAppends};
 ghost use Rattle.acng_base.specs.Causes.{HasCause, SendsAll};
-ghost use Rattle.acng_base.specs.Pipes.{ReadsAs, WritesAs};
+ghost use Rattle.acng_base.specs.Pipes.{fresh, ReadsAs, WritesAs};
 
 use crate::fault::{Failed, NoMemory};
 use crate::link::Link;
@@ -73,7 +73,7 @@ impl MemorySource {
         fail: &[u64],
     ) -> Result<MemorySource, NoMemory>
         requires { 1 ≤ cut }
-        ensures { IfOk result (λ source. source.link ≡ record { left = input.now; written = []; room = 0; cut = cut; calls = 0; fail = fail.now; faults = 0 }) }
+        ensures { IfOk result (λ source. source.link ≡ fresh input.now 0 cut fail.now) }
     {
         Ok(MemorySource {
             link: MemoryLink::new(alloc, input, 0, cut, fail)?,
@@ -107,7 +107,7 @@ impl MemorySink {
     /// from 0.
     pub fn new(alloc: Global, room: usize, cut: usize, fail: &[u64]) -> Result<MemorySink, NoMemory>
         requires { 1 ≤ cut }
-        ensures { IfOk result (λ sink. sink.link ≡ record { left = []; written = []; room = room; cut = cut; calls = 0; fail = fail.now; faults = 0 }) }
+        ensures { IfOk result (λ sink. sink.link ≡ fresh [] room cut fail.now) }
     {
         Ok(MemorySink {
             link: MemoryLink::new(alloc, &[], room, cut, fail)?,

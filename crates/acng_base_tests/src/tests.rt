@@ -1,10 +1,15 @@
 //! What no clause says: that the calls succeed with ample memory, and values from outside.
-use crate::{
+ghost use Rattle.std.specs.Prelude.{◌≡◌, IfOk};
+
+use acng_base::{
     CachePath, Clock, Failed, FixedClock, HostClock, LineState, Link, MemoryLink, MemorySink,
     MemorySource, Moment, NoMemory, PathFault, Scan, Sink, Source, StdLink, StdSink, StdSource,
-    Tag, Text, Texts, scan_block, send_all, send_counted,
+    Tag, Text, Texts, Unread, base_name, copy_at_most, copy_front, cut_last, find_byte,
+    first_bytes, read_digits, read_length, scan_block, send_all, send_counted, trim, without_cr,
+    words,
 };
 use std::alloc::Global;
+use std::io::{Error, ErrorKind, Read, Write};
 use std::test::Fail;
 
 #[test]
@@ -191,4 +196,163 @@ fn the_adapters_pass_the_bytes_on(rt: HostRuntime) -> Result<(), Fail> {
     assert_eq!(rt; StdSource::new(b"ab".as_slice()).read(&mut buf), Ok(2));
     assert_eq!(rt; StdSink::new(Vec::new(rt.alloc())).write(b"abc"), Ok(3));
     Ok(())
+}
+
+#[test]
+fn bytes_are_found_and_copied(rt: HostRuntime) {
+    let mut room = *b"....";
+    assert_eq!(rt; find_byte(b"a/b/c", b'/'), Some(1));
+    assert_eq!(rt; find_byte(b"abc", b'/'), None);
+    assert!(rt;
+        first_bytes(b"abc", 2) == b"ab".as_slice() && first_bytes(b"abc", 9) == b"abc".as_slice()
+    );
+    assert_eq!(rt; copy_front(b"abcdef", &mut room[1..3]), 2);
+    assert!(rt; room == *b".ab.");
+    assert_eq!(rt; copy_at_most(b"xyz", &mut room, 1), 1);
+    assert!(rt; room == *b"xab.");
+}
+
+// A length has 1 to 13 digits and is at most 2^41; 19 digits always fit 64 bits.
+#[test]
+fn a_number_has_few_digits(rt: HostRuntime) {
+    for (text, length) in [
+        (b"0".as_slice(), Some(0)),
+        (b"0000000000017".as_slice(), Some(17)),
+        (b"2199023255552".as_slice(), Some(2_199_023_255_552)),
+        (b"2199023255553".as_slice(), None),
+        (b"00000000000017".as_slice(), None),
+        (b"".as_slice(), None),
+        (b"+1".as_slice(), None),
+    ] {
+        assert_eq!(rt; read_length(text), length);
+    }
+    assert_eq!(rt;
+        read_digits(b"9999999999999999999", 19),
+        Some(9_999_999_999_999_999_999)
+    );
+    assert_eq!(rt; read_digits(b"10000000000000000000", 19), None);
+}
+
+#[test]
+fn a_line_loses_its_ends_and_has_words(rt: HostRuntime) -> Result<(), Fail> {
+    for (text, inner) in [
+        (b" \ta b\t ".as_slice(), b"a b".as_slice()),
+        (b"\t ".as_slice(), b"".as_slice()),
+        (b"a\r".as_slice(), b"a\r".as_slice()),
+    ] {
+        assert!(rt; trim(text) == inner);
+    }
+    assert!(rt; without_cr(b"a\r\r") == b"a\r".as_slice() && without_cr(b"").is_empty());
+    let found = words(rt.alloc(), b" a  bc\td ").map_err(|_| "memory")?;
+    assert_eq!(rt; found.len(), 3);
+    assert!(rt; found[1].as_bytes() == b"bc".as_slice());
+    Ok(())
+}
+
+#[test]
+fn a_packed_file_has_its_name(rt: HostRuntime) {
+    for (path, folder, name) in [
+        (
+            b"dists/sid/Packages.xz".as_slice(),
+            b"dists/sid".as_slice(),
+            b"Packages".as_slice(),
+        ),
+        (b"a.gz.bz2".as_slice(), b"".as_slice(), b"a.gz".as_slice()),
+        (
+            b"a/b.zst/c".as_slice(),
+            b"a/b.zst".as_slice(),
+            b"c".as_slice(),
+        ),
+        (b"a/".as_slice(), b"a".as_slice(), b"".as_slice()),
+    ] {
+        let (before, _) = cut_last(path);
+        assert!(rt; before == folder && base_name(path) == name);
+    }
+}
+
+// Each row: what is read and used in turn, as the count to use and what is then held.
+#[test]
+fn unread_bytes_stay_in_order(rt: HostRuntime) -> Result<(), Fail> {
+    let mut link = MemoryLink::new(rt.alloc(), b"abcdefghijkl", 0, 3, &[4]).map_err(|_| "memory")?;
+    let mut unread = Unread::<8>::new(rt.alloc()).map_err(|_| "memory")?;
+    assert!(rt; unread.is_empty());
+    for (read, used, held) in [
+        (Ok(3), 1, b"bc".as_slice()),
+        (Ok(3), 3, b"ef".as_slice()),
+        (Ok(3), 0, b"efghi".as_slice()),
+        (Ok(3), 0, b"efghijkl".as_slice()),
+    ] {
+        assert!(rt; !unread.is_full());
+        if unread.as_bytes().len() < 8 {
+            assert_eq!(rt; unread.fill(&mut link), read);
+        }
+        if used <= unread.as_bytes().len() {
+            unread.use_up(used);
+        }
+        assert!(rt; unread.as_bytes() == held);
+    }
+    assert!(rt; unread.is_full());
+    unread.use_up(unread.as_bytes().len());
+    assert!(rt; unread.is_empty());
+    assert_eq!(rt; unread.fill(&mut link), Err(Failed));
+    assert_eq!(rt; unread.fill(&mut link), Ok(0));
+    Ok(())
+}
+
+// A stream whose first calls are interrupted, and which then fails or is at its end.
+#[derive(Drop)]
+struct Stutter {
+    interrupted: u8,
+    fails: bool,
+}
+
+impl Stutter {
+    fn call(&mut self) -> std::io::Result<usize>
+        ensures { IfOk result (λ n. n ≡ 0) }
+    {
+        if self.interrupted > 0 {
+            self.interrupted -= 1;
+            return Err(Error::from(ErrorKind::Interrupted));
+        }
+        if self.fails {
+            return Err(Error::from(ErrorKind::BrokenPipe));
+        }
+        Ok(0)
+    }
+}
+
+impl Read for Stutter {
+    fn read(&mut self, _: &mut [u8]) -> std::io::Result<usize> {
+        self.call()
+    }
+}
+
+impl Write for Stutter {
+    fn write(&mut self, _: &[u8]) -> std::io::Result<usize> {
+        self.call()
+    }
+
+    fn flush(&mut self) -> std::io::Result<()> {
+        Ok(())
+    }
+}
+
+#[test]
+fn an_interrupted_call_is_made_again(rt: HostRuntime) {
+    let mut buf = [0; 4];
+    for (interrupted, fails, read) in [
+        (0, false, Ok(0)),
+        (3, false, Ok(0)),
+        (2, true, Err(Failed)),
+    ] {
+        assert_eq!(rt;
+            StdSource::new(Stutter { interrupted, fails }).read(&mut buf),
+            read
+        );
+        // a write that takes no byte fails
+        assert_eq!(rt;
+            StdSink::new(Stutter { interrupted, fails }).write(b"a"),
+            Err(Failed)
+        );
+    }
 }
