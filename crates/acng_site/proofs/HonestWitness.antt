@@ -1,11 +1,13 @@
 -- The premise of an honest site can be met: a site that is a table of files is honest and serves its requests.
-use Rattle.std.proofs.Common.{◌≡◌, ℕ, ◌^◌, Bool, true, false, not, List, [], ◌∷◌, ◌++◌, Some, None, codes, cond, bytes_eq, refl, subst, sym}
+use Rattle.std.proofs.Common.{◌≡◌, ℕ, Bool, true, false, not, List, [], ◌∷◌, ◌++◌, Some, None, codes, cond, bytes_eq, refl, subst, sym, ap, ◌∙◌, arith}
 use Rattle.std.proofs.lemmas.Slice.Eq.{bytes_eq-Decides}
 use Rattle.httparse.specs.Grammar.{is_token_byte, print_response, trim_ows}
 use Rattle.acng_base.specs.Heads.{Head}
-use Rattle.acng_base.specs.Answers.{Whole, Open}
-use Rattle.acng_base.specs.First.{Counted, framing, reading}
+use Rattle.acng_base.specs.Framings.{total_of}
+use Rattle.acng_base.specs.Answers.{Reading, reading, answer_limit}
+use Rattle.acng_base.specs.Answers.Outcome.{Whole, Open}
 use Rattle.acng_site.specs.declared.site.Site.{Ghosts as SiteGhosts}
+use Rattle.acng_site.specs.Places.{is_redirect}
 use Rattle.acng_site.specs.Honest.{IsHonest, IsHonestAnswer}
 
 abbrev url : List ℕ
@@ -33,28 +35,52 @@ table = record {
 serves_all : (p : List ℕ) → table.serves (codes "http://" ++ p) p ≡ true
 serves_all p = (bytes_eq-Decides (codes "http://" ++ p) (codes "http://" ++ p)).1 refl
 
-whole : reading answer true (2 ^ 41) ≡ record { interim = []; head = Some counted; body = codes "abc"; outcome = Whole }
+abbrev whole_reading : Reading
+whole_reading = record { interim = []; head = Some counted; body = codes "abc"; outcome = Whole }
+
+abbrev no_reading : Reading
+no_reading = record { interim = []; head = None; body = []; outcome = Open }
+
+whole : reading answer true answer_limit ≡ whole_reading
 unfolding is_token_byte print_response trim_ows
 whole = refl
 
-none : reading [] false (2 ^ 41) ≡ record { interim = []; head = None; body = []; outcome = Open }
+none : reading [] false answer_limit ≡ no_reading
 none = refl
 
-framed : framing counted ≡ Some (Counted 3)
-framed = refl
+-- what the table sends reads as one of these two
+abbrev read : Bool → Reading
+read b = reading (cond b answer []) (not (not b)) answer_limit
 
-size : (h : Head) → Some counted ≡ Some h → (n : ℕ) → framing h ≡ Some (Counted n) → n ≡ 3
-size h is n f =
-    let same : counted ≡ h = cc in
-    let g : framing h ≡ Some (Counted 3) = subst (λ k. framing k ≡ Some (Counted 3)) same framed in cc
+counted_head : (b : Bool) (h : Head) → (read b).head ≡ Some h → counted ≡ h
+counted_head true h is = let e : Some counted ≡ Some h = ap (λ r. r.head) (sym whole) ∙ is in cc
+counted_head false h is = absurd (let e : None ≡ Some h = ap (λ r. r.head) (sym none) ∙ is in cc)
 
-told : (b : Bool) → IsHonestAnswer (codes "abc") (reading (cond b answer []) (not (not b)) (2 ^ 41))
-told true =
+size : (h : Head) → counted ≡ h → total_of h ≡ Some 3
+size h same = subst (λ h. total_of h ≡ Some 3) same refl
+
+no_other : (h : Head) (s : ℕ) → counted ≡ h → h.status ≡ s → s ≡ 200
+no_other h s same is = sym is ∙ sym (ap (λ h. h.status) same)
+
+gives : (b : Bool) → IsHonestAnswer (codes "abc") (read b)
+gives true =
     subst (λ r. IsHonestAnswer (codes "abc") r) (sym whole)
-    (record { front = λ h is ok. refl; all = λ h is ok w. refl; stated = λ h is ok n f. size h is n f })
-told false =
+    (record {
+      whole = λ h is ok. record { front = refl; all = λ w. refl };
+      stated = λ h n is ok by. let e = size h (cc) in cc;
+      part = λ h range is s by. absurd (let e : 206 ≡ 200 = no_other h 206 (cc) s in omega (arith, e));
+    })
+gives false =
     subst (λ r. IsHonestAnswer (codes "abc") r) (sym none)
-    (record { front = λ h is ok. cc; all = λ h is ok w. cc; stated = λ h is ok n f. cc })
+    (record { whole = λ h is ok. cc; stated = λ h n is ok by. cc; part = λ h range is s by. cc })
 
+-- no redirect comes, and a file never changes
 honest : IsHonest table
-honest = record { gives = λ n a p s. told (bytes_eq a.url url) }
+honest = record {
+  leads = λ n a p h to serves is redirects at.
+      let same = counted_head (bytes_eq a.url url) h is in
+      let e : is_redirect counted.status ≡ true = subst (λ h. is_redirect h.status ≡ true) (sym same) redirects in
+      cc;
+  gives = λ n a p serves. gives (bytes_eq a.url url);
+  strong = λ m n a p tag h serves tagged before gave is s. refl;
+}

@@ -37,7 +37,8 @@ texts : (url reference : List ℕ) → IsUtf8 url → IsUtf8 reference
 texts url reference u r =
     both (is_utf8 url) (is_utf8 reference) _ (is_utf8-from_IsUtf8 url u) (is_utf8-from_IsUtf8 reference r)
 
-against : (p : Parsed Parts) (base : Parts) (next : Parts → Parsed Parts) → Some base ≡ read_of p → read_of (and_then p next) ≡ read_of (next base)
+against : (p : Parsed Parts) (base : Parts) (next : Parts → Parsed Parts) → Some base ≡ read_of p
+    → read_of (and_then p next) ≡ read_of (next base)
 against (Ok u) base next e = let same : base ≡ u = cc in ap (λ b. read_of (next b)) (sym same)
 against (Err e) base next is = absurd (cc)
 
