@@ -1,5 +1,6 @@
 -- A text cut at the first byte of a kind: there is one such cut.
-use Rattle.std.proofs.Common.{◌≡◌, ◌≢◌, ℕ, zero, suc, ◌+◌, ◌<◌, ◌==◌, eqb, Bool, true, false, List, [], ◌∷◌, ◌++◌, Some, None, Option, cond, length, get_or, take, drop, refl, sym, ap, ◌∙◌, drop-cons, arith}
+use Rattle.std.proofs.Common.{◌≡◌, ◌≢◌, ℕ, zero, suc, ◌+◌, ◌<◌, ◌==◌, eqb, Bool, true, false, List, [], ◌∷◌, ◌++◌, Some}
+use Rattle.std.proofs.Common.{None, Option, cond, length, get_or, take, drop, refl, sym, ap, ◌∙◌, drop-cons, arith}
 use Rattle.std.specs.List.{position, position_from}
 use Rattle.std.proofs.lemmas.Bool.{eqb-true}
 use Rattle.std.proofs.lemmas.List.{take-append-drop}
@@ -34,12 +35,14 @@ lacks_front byte (suc i) (x ∷ xs) h = (λ e. differs e (h 0 (omega arith)), la
     differs : x ≡ byte → eqb x byte ≡ false → ⊥
     differs e t = grind (arith)
 
-pub cut_at : (byte i : ℕ) (text : List ℕ) → position (λ b. b == byte) text ≡ Some i → (i < length text) × Lacks byte (take i text) × (text ≡ take i text ++ byte ∷ drop (i + 1) text)
+pub cut_at : (byte i : ℕ) (text : List ℕ) → position (λ b. b == byte) text ≡ Some i → (i < length text) × Lacks byte (take i text)
+    × (text ≡ take i text ++ byte ∷ drop (i + 1) text)
 cut_at byte i text h =
     let at = position-Some (λ b. b == byte) text i 0 h in
     let here : get_or text i 0 ≡ byte = eqb-true _ _ at.1 in
     let next : suc i ≡ i + 1 = omega arith in
-    let rest : drop i text ≡ byte ∷ drop (i + 1) text = drop-cons text i 0 at.0 ∙ ap (λ b. b ∷ drop (suc i) text) here ∙ ap (λ n. byte ∷ drop n text) next in
+    let rest : drop i text ≡ byte ∷ drop (i + 1) text = drop-cons text i 0 at.0 ∙ ap (λ b. b ∷ drop (suc i) text) here
+    ∙ ap (λ n. byte ∷ drop n text) next in
     (at.0, lacks_front byte i text at.2, sym (take-append-drop i text) ∙ ap (λ t. take i text ++ t) rest)
 
 no_place : (byte i : ℕ) (v rest : List ℕ) → position_from (λ b. b == byte) i (v ++ byte ∷ rest) ≡ None → ⊥
@@ -52,7 +55,8 @@ no_place byte i (b ∷ v) rest h = cases (b == byte) h (λ g. no_place byte (i +
     cases false h again = again h
 
 pub no_cut : (byte : ℕ) (text : List ℕ) → position (λ b. b == byte) text ≡ None → (v rest : List ℕ) → text ≢ v ++ byte ∷ rest
-no_cut byte text h v rest e = no_place byte 0 v rest (ap (position_from (λ b. b == byte) 0) (sym e) ∙ sym (position_from-zero (λ b. b == byte) text) ∙ h)
+no_cut byte text h v rest e =
+    no_place byte 0 v rest (ap (position_from (λ b. b == byte) 0) (sym e) ∙ sym (position_from-zero (λ b. b == byte) text) ∙ h)
 
 -- a line in what follows its key is a line in the whole
 pub line_found : {X : Type 0} (o : Option X) (v r : X → List ℕ) (text key rest : List ℕ) → text ≡ key ++ rest

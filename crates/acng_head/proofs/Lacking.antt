@@ -1,5 +1,7 @@
 -- The values of a head lie inside their lines: none has a line feed.
-use Rattle.std.proofs.Common.{◌≡◌, ◌≢◌, ℕ, zero, suc, ◌+◌, ◌-◌, ◌/◌, ◌%◌, ◌^◌, ◌<◌, ◌≤◌, ◌==◌, Bool, true, false, not, List, [], ◌∷◌, ◌++◌, Option, Some, None, cond, decimal, codes, length, get_or, take, refl, sym, ap, ◌∙◌, subst, arith}
+use Rattle.std.proofs.Common.{◌≡◌, ◌≢◌, ℕ, zero, suc, ◌+◌, ◌-◌, ◌/◌, ◌%◌, ◌^◌, ◌<◌, ◌≤◌, ◌==◌, Bool, true, false, not}
+use Rattle.std.proofs.Common.{List, [], ◌∷◌, ◌++◌, Option, Some, None, cond, decimal, codes, length, get_or, take, refl}
+use Rattle.std.proofs.Common.{sym, ap, ◌∙◌, subst, arith}
 use Rattle.std.specs.List.{list_all, position, position_from}
 use Rattle.std.specs.Option.{IfSome, option_or, option_map}
 use Rattle.std.proofs.lemmas.Bool.{and_parts, eqb-true, leb-true, false≢true}
@@ -11,7 +13,7 @@ use Rattle.acng_base.specs.declared.clock.Moment.{Moment}
 use Rattle.acng_head.specs.declared.head.Head.{Head}
 use Rattle.acng_head.specs.declared.head.Label.{Label}
 use Rattle.acng_head.specs.declared.head.Label.TheVariants.{Fetched, Imported}
-use Rattle.acng_head.specs.Records.{Lacks, AreValues, values_of, origin_text, moment_text, IsBoundedLabel, IsHead}
+use Rattle.acng_head.specs.Records.{Lacks, AreValues, values_of, origin_text, moment_text, IsBoundedLabel, IsHead, year_10000}
 use Rattle.acng_head.proofs.Numbers.{Lacks-decimal}
 
 Lacks-append : (byte : ℕ) (xs ys : List ℕ) → Lacks byte xs → Lacks byte ys → Lacks byte (xs ++ ys)
@@ -96,7 +98,8 @@ Lacks-tag (b ∷ bs) h =
 Lacks-origin : (bytes : ℕ) (l : Label) → IsBoundedLabel bytes l → Lacks 10 (origin_text l)
 Lacks-origin bytes (Fetched first last) h =
     Lacks-append 10 (codes "fetched ") _ (lacks_by 10 (λ b. not (b == 10)) refl (codes "fetched ") refl)
-    (Lacks-append 10 (decimal first) _ (Lacks-decimal 10 first (omega arith) (omega arith)) (λ e. omega arith, Lacks-decimal 10 last (omega arith) (omega arith)))
+    (Lacks-append 10 (decimal first) _ (Lacks-decimal 10 first (omega arith) (omega arith))
+    (λ e. omega arith, Lacks-decimal 10 last (omega arith) (omega arith)))
 Lacks-origin bytes (Imported sha256 size) h =
     Lacks-append 10 (codes "imported ") _ (lacks_by 10 (λ b. not (b == 10)) refl (codes "imported ") refl) (Lacks-hex sha256.0)
 
@@ -108,7 +111,7 @@ Lacks-some_tag : (o : Option (List ℕ)) → IfSome o (λ t. is_tag t ≡ true) 
 Lacks-some_tag None h = tt
 Lacks-some_tag (Some t) h = Lacks-tag t h
 
-pub below : (o : Option Moment) → IfSome o (λ m. m.0 < 253402300800) → IfSome o (λ m. m.0 < 2 ^ 64)
+pub below : (o : Option Moment) → IfSome o (λ m. m.0 < year_10000) → IfSome o (λ m. m.0 < 2 ^ 64)
 below None h = tt
 below (Some m) h = omega arith
 

@@ -27,5 +27,6 @@ Lacks-decimal byte n low small = lacks_low byte (decimal n) low (digits_decimal 
 pub IsUtf8-decimal : (n : ℕ) (text : List ℕ) → n < 2 ^ 64 → text ≡ decimal n → IsUtf8 text
 IsUtf8-decimal n text small e = subst IsUtf8 (sym e) (IsUtf8-from_ascii (decimal n) (IsAscii-decimal n small))
 
-pub parse_digits : {E : Type 0} (n : ℕ) (text digits : List ℕ) (r : Result ℕ E) → n < 2 ^ 64 → text ≡ decimal n → digits ≡ text → ParsesUnsigned 64 10 digits r → r ≡ Ok n
+pub parse_digits : {E : Type 0} (n : ℕ) (text digits : List ℕ) (r : Result ℕ E) → n < 2 ^ 64 → text ≡ decimal n → digits ≡ text
+    → ParsesUnsigned 64 10 digits r → r ≡ Ok n
 parse_digits n text digits r small e same h = parse-decimal 64 n digits r small small (same ∙ e) h

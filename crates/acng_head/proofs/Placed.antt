@@ -9,7 +9,9 @@ Puts-trans {a} {b} {c} {i} {j} {k} {s} {t} p q =
     record {
       end_is = omega (arith, size, p.end_is, q.end_is);
       front = q.front ∙ ap (λ x. x ++ t) p.front ∙ append_assoc (take i a) s t;
-      after = q.after ∙ ap (λ n. drop n b) q.end_is ∙ sym (drop-drop (length t) j b) ∙ ap (drop (length t)) p.after ∙ drop-drop (length t) j a ∙ ap (λ n. drop n a) (sym q.end_is);
+      after =
+          q.after ∙ ap (λ n. drop n b) q.end_is ∙ sym (drop-drop (length t) j b) ∙ ap (drop (length t)) p.after ∙ drop-drop (length t) j a
+          ∙ ap (λ n. drop n a) (sym q.end_is);
       len = q.len ∙ p.len;
     }
 

@@ -1,5 +1,6 @@
 -- The text of a record's lines, from each line on: what is left after a line is taken is the text from the next line.
-use Rattle.std.proofs.Common.{◌≡◌, ◌≢◌, ℕ, List, [], ◌∷◌, ◌++◌, codes, eqb, Bool, true, false, not, get_or, arith, Some, None, Option, refl, sym, ap, ◌∙◌, append_assoc}
+use Rattle.std.proofs.Common.{◌≡◌, ◌≢◌, ℕ, List, [], ◌∷◌, ◌++◌, codes, eqb, Bool, true, false, not, get_or, arith, Some}
+use Rattle.std.proofs.Common.{None, Option, refl, sym, ap, ◌∙◌, append_assoc}
 use Rattle.std.specs.Option.{IfSome}
 use Rattle.std.specs.Str.{bytes_eq}
 use Rattle.std.proofs.lemmas.Slice.Eq.{bytes_eq-Decides}
@@ -39,7 +40,8 @@ line_next : (key a b r s t : List ℕ) → Lacks 10 a → line key a r ≡ t →
 line_next key a b r s t la e f = line_same key a b r s la f.0 (e ∙ f.1)
 
 -- a line that may be missing, where what follows it is no such line
-maybe_next : (key : List ℕ) (a b : Option (List ℕ)) (r s t : List ℕ) → IfSome a (Lacks 10) → ((v rest : List ℕ) → r ≢ line key v rest) → maybe key a r ≡ t
+maybe_next : (key : List ℕ) (a b : Option (List ℕ)) (r s t : List ℕ) → IfSome a (Lacks 10) → ((v rest : List ℕ) → r ≢ line key v rest)
+    → maybe key a r ≡ t
     → IfSome b (Lacks 10) → t ≡ maybe key b s → (b ≡ None → (v rest : List ℕ) → t ≢ line key v rest) → (a ≡ b) × (r ≡ s)
 maybe_next key None None r s t la other e lb f missing = (refl, e ∙ f)
 maybe_next key None (Some b) r s t la other e lb f missing = absurd (other b s (e ∙ f))
@@ -78,23 +80,29 @@ module _ (v : Values) (h : AreValues v) (t : List ℕ) where
 
   pub to_checked : (o : Option (List ℕ)) (r : List ℕ) → from_modified v ≡ t → IfSome o (Lacks 10) → t ≡ maybe (codes "modified ") o r
       → (o ≡ None → (w rest : List ℕ) → t ≢ line (codes "modified ") w rest) → (v.modified ≡ o) × (from_checked v ≡ r)
-  to_checked o r e l f missing = maybe_next (codes "modified ") v.modified o (from_checked v) r t h.modified (λ w rest e. apart 99 109 _ _ e refl) e l f missing
+  to_checked o r e l f missing =
+      maybe_next (codes "modified ") v.modified o (from_checked v) r t h.modified (λ w rest e. apart 99 109 _ _ e refl) e l f missing
 
   pub to_end : (o : Option (List ℕ)) (r : List ℕ) → from_mark v ≡ t → IfSome o (Lacks 10) → t ≡ maybe (codes "mark ") o r
       → (o ≡ None → (w rest : List ℕ) → t ≢ line (codes "mark ") w rest) → (v.mark ≡ o) × (from_end ≡ r)
   to_end o r e l f missing = maybe_next (codes "mark ") v.mark o from_end r t h.mark (λ w rest e. apart 101 109 _ _ e refl) e l f missing
 
 -- the values of lines are the same where each is
-pub values_same : (v w : Values) → v.path ≡ w.path → v.origin ≡ w.origin → v.size ≡ w.size → v.tag ≡ w.tag → v.modified ≡ w.modified → v.checked ≡ w.checked → v.mark ≡ w.mark → v ≡ w
-values_same v w e1 e2 e3 e4 e5 e6 e7 = all v.path w.path v.origin w.origin v.size w.size v.tag w.tag v.modified w.modified v.checked w.checked v.mark w.mark e1 e2 e3 e4 e5 e6 e7
+pub values_same : (v w : Values) → v.path ≡ w.path → v.origin ≡ w.origin → v.size ≡ w.size → v.tag ≡ w.tag → v.modified ≡ w.modified
+    → v.checked ≡ w.checked → v.mark ≡ w.mark → v ≡ w
+values_same v w e1 e2 e3 e4 e5 e6 e7 =
+    all v.path w.path v.origin w.origin v.size w.size v.tag w.tag v.modified w.modified v.checked w.checked v.mark w.mark
+    e1 e2 e3 e4 e5 e6 e7
   where
     all : (p p' o o' s s' : List ℕ) (t t' d d' : Option (List ℕ)) (c c' : List ℕ) (m m' : Option (List ℕ))
         → p ≡ p' → o ≡ o' → s ≡ s' → t ≡ t' → d ≡ d' → c ≡ c' → m ≡ m'
-        → ◌≡◌ {A = Values} (record { path = p; origin = o; size = s; tag = t; modified = d; checked = c; mark = m }) (record { path = p'; origin = o'; size = s'; tag = t'; modified = d'; checked = c'; mark = m' })
+        → ◌≡◌ {A = Values} (record { path = p; origin = o; size = s; tag = t; modified = d; checked = c; mark = m })
+        (record { path = p'; origin = o'; size = s'; tag = t'; modified = d'; checked = c'; mark = m' })
     all p p' o o' s s' t t' d d' c c' m m' e1 e2 e3 e4 e5 e6 e7 = cc
 
 -- a line that may be missing, in two texts
-maybe_same : (key : List ℕ) (a b : Option (List ℕ)) (r s : List ℕ) → IfSome a (Lacks 10) → IfSome b (Lacks 10) → ((v rest : List ℕ) → r ≢ line key v rest)
+maybe_same : (key : List ℕ) (a b : Option (List ℕ)) (r s : List ℕ) → IfSome a (Lacks 10) → IfSome b (Lacks 10)
+    → ((v rest : List ℕ) → r ≢ line key v rest)
     → ((v rest : List ℕ) → s ≢ line key v rest) → maybe key a r ≡ maybe key b s → (a ≡ b) × (r ≡ s)
 maybe_same key a b r s la lb other_r other_s e = maybe_next key a b r s (maybe key b s) la other_r e lb refl (missing b)
   where
@@ -110,14 +118,18 @@ texts_same v w hv hw e =
     let e2 = to_size v hv _ _ _ e1.1 (hw.origin, refl) in
     let e3 = to_tag v hv _ _ _ e2.1 (hw.size, refl) in
     let e4 = maybe_same (codes "tag ") v.tag w.tag _ _ hv.tag hw.tag (no_tag v hv [] v.modified) (no_tag w hw [] w.modified) e3.1 in
-    let e5 = maybe_same (codes "modified ") v.modified w.modified _ _ hv.modified hw.modified (λ a rest e. apart 99 109 _ _ e refl) (λ a rest e. apart 99 109 _ _ e refl) e4.1 in
+    let e5 = maybe_same (codes "modified ") v.modified w.modified _ _ hv.modified hw.modified (λ a rest e. apart 99 109 _ _ e refl)
+    (λ a rest e. apart 99 109 _ _ e refl) e4.1 in
     let e6 = to_mark v hv _ _ _ e5.1 (hw.checked, refl) in
-    let e7 = maybe_same (codes "mark ") v.mark w.mark from_end from_end hv.mark hw.mark (λ a rest e. apart 101 109 _ _ e refl) (λ a rest e. apart 101 109 _ _ e refl) e6.1 in
+    let e7 = maybe_same (codes "mark ") v.mark w.mark from_end from_end hv.mark hw.mark (λ a rest e. apart 101 109 _ _ e refl)
+    (λ a rest e. apart 101 109 _ _ e refl) e6.1 in
     values_same v w e1.0 e2.0 e3.0 e4.0 e5.0 e6.0 e7.0
 
 -- the lines, one after another, are the text
-pub whole : (v : Values) (t r0 r1 r2 r3 r4 r5 r6 r7 : List ℕ) → t ≡ codes "acng-head 1\n" ++ r0 → r0 ≡ line (codes "path ") v.path r1 → r1 ≡ line (codes "origin ") v.origin r2
-    → r2 ≡ line (codes "size ") v.size r3 → r3 ≡ maybe (codes "tag ") v.tag r4 → r4 ≡ maybe (codes "modified ") v.modified r5 → r5 ≡ line (codes "checked ") v.checked r6
+pub whole : (v : Values) (t r0 r1 r2 r3 r4 r5 r6 r7 : List ℕ) → t ≡ codes "acng-head 1\n" ++ r0 → r0 ≡ line (codes "path ") v.path r1
+    → r1 ≡ line (codes "origin ") v.origin r2
+    → r2 ≡ line (codes "size ") v.size r3 → r3 ≡ maybe (codes "tag ") v.tag r4 → r4 ≡ maybe (codes "modified ") v.modified r5
+    → r5 ≡ line (codes "checked ") v.checked r6
     → r6 ≡ maybe (codes "mark ") v.mark r7 → r7 ≡ from_end → text_of v ≡ t
 unfolding text_of
 whole v t r0 r1 r2 r3 r4 r5 r6 r7 e0 e1 e2 e3 e4 e5 e6 e7 e8 = rw (e0, e1, e2, e3, e4, e5, e6, e7, e8) refl
@@ -146,8 +158,11 @@ maybe_more : (key : List ℕ) (o : Option (List ℕ)) (r : List ℕ) → maybe k
 maybe_more key None r = refl
 maybe_more key (Some v) r = line_more key v r
 
-pub joined : (v : Values) → codes "acng-head 1\n" ++ (line (codes "path ") v.path [] ++ (line (codes "origin ") v.origin [] ++ (line (codes "size ") v.size []
-    ++ (maybe (codes "tag ") v.tag [] ++ (maybe (codes "modified ") v.modified [] ++ (line (codes "checked ") v.checked [] ++ (maybe (codes "mark ") v.mark [] ++ from_end))))))) ≡ text_of v
+pub joined : (v : Values) → codes "acng-head 1\n" ++
+    (line (codes "path ") v.path [] ++ (line (codes "origin ") v.origin [] ++ (line (codes "size ") v.size []
+    ++ (maybe (codes "tag ") v.tag [] ++
+    (maybe (codes "modified ") v.modified [] ++
+    (line (codes "checked ") v.checked [] ++ (maybe (codes "mark ") v.mark [] ++ from_end))))))) ≡ text_of v
 joined v =
     let m = maybe_more (codes "mark ") v.mark from_end in
     let k = ap (λ r. line (codes "checked ") v.checked [] ++ r) m ∙ line_more (codes "checked ") v.checked (from_mark v) in

@@ -1,5 +1,6 @@
 -- The record of a file of the cache: its text, as a function of the head. The format is this project's own, version 1.
-use Rattle.std.specs.Prelude.{◌≡◌, ◌≢◌, ℕ, ◌^◌, ◌<◌, ◌≤◌, true, List, [], ◌∷◌, ◌++◌, length, codes, decimal, Option, None, Some, option_map, IfSome}
+use Rattle.std.specs.Prelude.{◌≡◌, ◌≢◌, ℕ, ◌^◌, ◌<◌, ◌≤◌, true, List, [], ◌∷◌, ◌++◌, length, codes, decimal, Option}
+use Rattle.std.specs.Prelude.{None, Some, option_map, IfSome}
 use Rattle.std.specs.Option.{option_copied}
 use Rattle.hex.specs.Hex.{IsBytes, encode_lower}
 use Rattle.acng_base.specs.Paths.{path_refusal}
@@ -103,11 +104,15 @@ abbrev pub IsBoundedLabel : ℕ → Label → Type 0
 IsBoundedLabel bytes (Fetched first last) = (first ≤ last) × (last < 2 ^ 63)
 IsBoundedLabel bytes (Imported sha256 size) = size ≡ bytes
 
--- the bounds of a head that has a record: 253,402,300,800 is the first second of the year 10000
+-- the first second of the year 10000, since 1970
+abbrev pub year_10000 : ℕ
+year_10000 = 253402300800
+
+-- the bounds of a head that has a record
 pub record IsBounded (h : Head) : Type 0 where
   pub label : IsBoundedLabel h.size h.label
   pub size : h.size ≤ 2 ^ 41
-  pub modified : IfSome h.modified (λ m. m.0 < 253402300800)
+  pub modified : IfSome h.modified (λ m. m.0 < year_10000)
 
 -- a hash has 32 bytes
 abbrev pub IsHash : Hash → Type 0
@@ -129,3 +134,12 @@ pub record IsTyped (h : Head) : Type 0 where
 pub record IsHead (h : Head) : Type 0 where
   pub typed : IsTyped h
   pub bounded : IsBounded h
+
+-- the text is the record of this head
+pub record IsRecordOf (bytes : List ℕ) (h : Head) : Type 0 where
+  pub head : IsHead h
+  pub text : record_text h ≡ bytes
+
+-- a text is the record of one head
+abbrev pub OneRecord : Type 0
+OneRecord = (bytes : List ℕ) (g h : Head) → IsRecordOf bytes g → IsRecordOf bytes h → g ≡ h

@@ -20,15 +20,15 @@
 //! Numbers have no leading zero and a hash has 64 lower-case digits, so a head has one record.
 #![tactic(auto)]
 
-pub mod head;
+mod head;
+mod law;
 mod lines;
-pub mod read;
-#[cfg(test)]
-mod tests;
+mod read;
 mod values;
-pub mod write;
+mod write;
 
 pub use acng_base::{Hash, Tag};
 pub use head::{Head, Label};
+pub use law::one_record;
 pub use read::read_head;
 pub use write::write_head;

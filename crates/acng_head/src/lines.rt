@@ -1,7 +1,8 @@
 //! A record cut into the values of its lines. What a value says stands in `values.rt`.
-ghost use Rattle.std.specs.Prelude.{◌≡◌, ◌≢◌, ◌==◌, ◌∷◌, ◌++◌, List, ℕ, None, MatchOption, IfSome, option_copied};
-ghost use Rattle.std.specs.List.{position};
+ghost use Rattle.std.specs.Prelude.{◌≡◌, ◌≢◌, ◌∷◌, ◌++◌, List, ℕ, None, MatchOption, IfSome, option_copied};
 ghost use Rattle.acng_head.specs.Records.{Lacks, line, maybe, Values, AreValues, text_of, cut_values};
+
+use acng_base::find_byte;
 
 /// The values of a record's lines.
 #[derive(Drop)]
@@ -70,14 +71,8 @@ pub fn split_at(text: &[u8], byte: u8) -> Option<(&[u8], &[u8])>
         ((v rest : List ℕ) → text.now ≢ v ++ byte ∷ rest)
         (λ r. Lacks byte r.0.now × (text.now ≡ r.0.now ++ byte ∷ r.1.now)) }
 {
-    let at = place_of(text, byte)?;
+    let at = find_byte(text, byte)?;
     Some((&text[..at], &text[at + 1..]))
-}
-
-fn place_of(text: &[u8], byte: u8) -> Option<usize>
-    ensures { result ≡ position (λ b. b == byte) text.now }
-{
-    text.iter().position(|b| *b == byte)
 }
 
 /// What stands after this front.

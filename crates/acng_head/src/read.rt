@@ -2,28 +2,23 @@
 ghost use Rattle.std.specs.Prelude.{◌≡◌, ◌≢◌, ◌<◌, ◌≤◌, ◌^◌, None, Some, true, IsTrue, ◌↔◌, IfOk, IfSome, MatchOption};
 ghost use Rattle.acng_base.specs.Paths.{path_refusal};
 ghost use Rattle.acng_head.specs.declared.head.Head.{Head};
-ghost use Rattle.acng_head.specs.Records.{IsHead, record_text, values_of, cut_values};
+ghost use Rattle.acng_head.specs.Records.{IsHead, IsRecordOf, values_of, cut_values, year_10000};
 
 use crate::head::Head;
 use crate::lines::{Lines, cut};
 use crate::values::{label, moment, number, tag};
-use acng_base::{CachePath, Moment, NoMemory, PathFault};
+use acng_base::{CachePath, MOST_BYTES, Moment, NoMemory, PathFault};
 use std::alloc::Global;
 
-/// The most bytes of a file.
-const MOST: u64 = 1 << 41;
-
-/// The first moment past the year 9999.
-const PAST: u64 = 253_402_300_800;
+/// The first second of the year 10000, since 1970.
+const YEAR_10000: u64 = 253_402_300_800;
 
 /// Reads a record; None for every other text. The memory is that of the head's path.
 pub fn read_head(alloc: Global, bytes: &[u8]) -> Result<Option<Head>, NoMemory>
-    ensures head { IfOk result (λ o. MatchOption o
-        ((h : Head) → IsHead h → record_text h ≢ bytes.now)
-        (λ h. IsHead h × (record_text h ≡ bytes.now))) }
+    ensures head { IfOk result (λ o. MatchOption o ((h : Head) → IsRecordOf bytes.now h → ⊥) (IsRecordOf bytes.now)) }
 
     // A head has one record, so what was written is read back.
-    ensures same { (h : Head) → IsHead h → record_text h ≡ bytes.now → IfOk result (λ o. o ≡ Some h) }
+    ensures same { (h : Head) → IsRecordOf bytes.now h → IfOk result (λ o. o ≡ Some h) }
 {
     let Some(lines) = cut(bytes) else {
         return Ok(None);
@@ -66,10 +61,10 @@ fn head_of(path: CachePath, lines: &Lines) -> Option<Head>
 }
 
 fn is_bounded(size: u64, modified: Option<Moment>) -> bool
-    ensures { IsTrue result ↔ ((size ≤ 2 ^ 41) × IfSome modified (λ m. m.0 < 253402300800)) }
+    ensures { IsTrue result ↔ ((size ≤ 2 ^ 41) × IfSome modified (λ m. m.0 < year_10000)) }
 {
     match modified {
-        Some(Moment(seconds)) => size <= MOST && seconds < PAST,
-        None => size <= MOST,
+        Some(Moment(seconds)) => size <= MOST_BYTES && seconds < YEAR_10000,
+        None => size <= MOST_BYTES,
     }
 }

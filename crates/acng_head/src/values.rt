@@ -1,5 +1,6 @@
 //! What the values of a record's lines say: each reading takes exactly the text that is written for one value.
-ghost use Rattle.std.specs.Prelude.{◌≡◌, ◌≢◌, ◌≤◌, ◌<◌, ◌^◌, ◌++◌, ◌∷◌, List, ℕ, length, codes, true, decimal, MatchOption, IfSome, option_copied};
+ghost use Rattle.std.specs.Prelude.{◌≡◌, ◌≢◌, ◌≤◌, ◌<◌, ◌^◌, ◌++◌, ◌∷◌, List, ℕ, length, codes, true, decimal};
+ghost use Rattle.std.specs.Prelude.{MatchOption, IfSome, option_copied};
 ghost use Rattle.std.specs.declared.option.Option.{Option};
 ghost use Rattle.hex.specs.Hex.{IsBytes, encode_lower};
 ghost use Rattle.acng_base.specs.Tags.{is_tag};

@@ -1,5 +1,6 @@
 use Rattle.std.proofs.Common.{◌∙◌, sym}
-use Rattle.acng_head.proofs.Texts.{to_path, to_origin, to_size, to_tag, to_modified, to_checked, to_mark, to_end, whole, text_is, same_text, other_text}
+use Rattle.acng_head.proofs.Texts.{to_path, to_origin, to_size, to_tag, to_modified, to_checked, to_mark, to_end, whole}
+use Rattle.acng_head.proofs.Texts.{text_is, same_text, other_text}
 use Rattle.acng_head.proofs.lines.cut.Goals as goal
 
 pub returns-in_err-rest : goal.returns-in_err-rest

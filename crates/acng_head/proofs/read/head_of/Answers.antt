@@ -3,7 +3,7 @@ use Rattle.std.proofs.lemmas.Bool.{false≢true}
 use Rattle.std.proofs.lemmas.Fmt.{decimal_injective}
 use Rattle.std.specs.Option.{IfSome}
 use Rattle.acng_head.specs.declared.head.Head.{Head}
-use Rattle.acng_head.specs.Records.{IsHead, IsBoundedLabel, Values, values_of}
+use Rattle.acng_head.specs.Records.{IsHead, IsBoundedLabel, Values, values_of, year_10000}
 use Rattle.acng_head.proofs.Lacking.{below}
 use Rattle.acng_head.proofs.Same.{moment_same}
 use Rattle.acng_head.proofs.Texts.{values_same}
@@ -12,7 +12,8 @@ use Rattle.acng_head.proofs.read.head_of.Goals as goal
 -- the size that was read is the head's
 size_same : (h : Head) (v : Values) (n : ℕ) → IsHead h → values_of h ≡ v → n < 2 ^ 64 → v.size ≡ decimal n → n ≡ h.size
 unfolding values_of
-size_same h v n is e small read = decimal_injective n h.size small (omega (arith, is.bounded.size)) (sym read ∙ sym (ap (λ (w : Values). w.size) e))
+size_same h v n is e small read =
+    decimal_injective n h.size small (omega (arith, is.bounded.size)) (sym read ∙ sym (ap (λ (w : Values). w.size) e))
 
 pub returns-in_err-size : goal.returns-in_err-size
 unfolding values_of
@@ -23,7 +24,8 @@ pub returns-in_err-label : goal.returns-in_err-label
 unfolding values_of
 returns-in_err-label c = rw c.from_residual-in_err-label.ensures (λ h is e.
     let same = size_same h _ c.in_ok-size.size is e c.in_ok-size.ensures.0 c.in_ok-size.ensures.1 in
-    c.in_err-label.ensures h.label is.typed.label (subst (λ n. IsBoundedLabel n h.label) (sym same) is.bounded.label) (sym (ap (λ (v : Values). v.origin) e)))
+    c.in_err-label.ensures h.label is.typed.label (subst (λ n. IsBoundedLabel n h.label) (sym same) is.bounded.label)
+    (sym (ap (λ (v : Values). v.origin) e)))
 
 pub returns-in_err-tag : goal.returns-in_err-tag
 unfolding values_of
@@ -49,8 +51,9 @@ pub returns-then-not-is_bounded : goal.returns-then-not-is_bounded
 unfolding values_of
 returns-then-not-is_bounded c = λ h is e.
     let same = size_same h _ c.in_ok-size.size is e c.in_ok-size.ensures.0 c.in_ok-size.ensures.1 in
-    let modified = moment_same c.in_ok-modified.modified h.modified c.in_ok-modified.ensures.0 (below h.modified is.bounded.modified) (c.in_ok-modified.ensures.1 ∙ sym (ap (λ (v : Values). v.modified) e)) in
-    let within = subst (λ o. IfSome o (λ m. m.0 < 253402300800)) (sym modified) is.bounded.modified in
+    let modified = moment_same c.in_ok-modified.modified h.modified c.in_ok-modified.ensures.0 (below h.modified is.bounded.modified)
+    (c.in_ok-modified.ensures.1 ∙ sym (ap (λ (v : Values). v.modified) e)) in
+    let within = subst (λ o. IfSome o (λ m. m.0 < year_10000)) (sym modified) is.bounded.modified in
     let bytes : c.in_ok-size.size ≤ 2 ^ 41 = omega (arith, same, is.bounded.size) in
     false≢true (sym c.if-not-is_bounded.true ∙ c.is_bounded.ensures.1 (bytes, within))
 

@@ -11,7 +11,9 @@ returns c =
     let same : length ys ≡ length text = ap length c.copy_from_slice.ensures.after in
     record {
       end_is = refl;
-      front = take-put_mid at (at + length text - at) out ys (at + length text) (omega (arith, same)) (omega arith) ∙ ap (λ y. take at out ++ y) c.copy_from_slice.ensures.after;
+      front =
+          take-put_mid at (at + length text - at) out ys (at + length text) (omega (arith, same)) (omega arith)
+          ∙ ap (λ y. take at out ++ y) c.copy_from_slice.ensures.after;
       after = drop-put_mid at (at + length text - at) out ys (at + length text) (omega arith) (omega arith) (omega (arith, same));
       len = search (rules, overwrites);
     }

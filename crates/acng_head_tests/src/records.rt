@@ -2,8 +2,8 @@
 ghost use Rattle.std.specs.Prelude.{◌<◌, ◌^◌, IfOk};
 ghost use Rattle.acng_head.specs.Records.{IsBounded};
 
-use crate::{Hash, Head, Label, Tag, read_head, write_head};
 use acng_base::{CachePath, Moment};
+use acng_head::{Hash, Head, Label, Tag, read_head, write_head};
 use std::alloc::Global;
 use std::test::Fail;
 
@@ -11,8 +11,9 @@ const FETCHED: &[u8] =
     b"acng-head 1\npath ftp.example.org/debian/pool/main/a/a_1_all.deb\norigin fetched 0 0\nsize 3\nchecked 1000\nend\n";
 
 // With each line, the last moment that `modified` may have, and the SHA-256 hash of `abc` (FIPS 180-4).
-const IMPORTED: &[u8] =
-    b"acng-head 1\npath h/a.deb\norigin imported ba7816bf8f01cfea414140de5dae2223b00361a396177a9cb410ff61f20015ad\nsize 3\ntag \"x\"\nmodified 253402300799\nchecked 18446744073709551615\nmark 0\nend\n";
+const IMPORTED: &[u8] = b"acng-head 1\npath h/a.deb\n\
+    origin imported ba7816bf8f01cfea414140de5dae2223b00361a396177a9cb410ff61f20015ad\nsize 3\n\
+    tag \"x\"\nmodified 253402300799\nchecked 18446744073709551615\nmark 0\nend\n";
 
 const ABC: [u8; 32] = [
     0xba, 0x78, 0x16, 0xbf, 0x8f, 0x01, 0xcf, 0xea, 0x41, 0x41, 0x40, 0xde, 0x5d, 0xae, 0x22, 0x23,
@@ -92,7 +93,9 @@ fn a_text_is_one_record_or_none(rt: HostRuntime) -> Result<(), Fail> {
         (
             true,
             "the last attempt, and the greatest size",
-            b"acng-head 1\npath a\norigin fetched 9223372036854775807 9223372036854775807\nsize 2199023255552\nchecked 9\nend\n".as_slice(),
+            b"acng-head 1\npath a\norigin fetched 9223372036854775807 9223372036854775807\n\
+            size 2199023255552\nchecked 9\nend\n"
+                .as_slice(),
         ),
         (
             true,
@@ -177,22 +180,30 @@ fn a_text_is_one_record_or_none(rt: HostRuntime) -> Result<(), Fail> {
         (
             false,
             "a hash in upper case",
-            b"acng-head 1\npath a\norigin imported BA7816BF8F01CFEA414140DE5DAE2223B00361A396177A9CB410FF61F20015AD\nsize 3\nchecked 9\nend\n".as_slice(),
+            b"acng-head 1\npath a\n\
+            origin imported BA7816BF8F01CFEA414140DE5DAE2223B00361A396177A9CB410FF61F20015AD\nsize 3\nchecked 9\nend\n"
+                .as_slice(),
         ),
         (
             false,
             "a hash of 63 digits",
-            b"acng-head 1\npath a\norigin imported ba7816bf8f01cfea414140de5dae2223b00361a396177a9cb410ff61f20015a\nsize 3\nchecked 9\nend\n".as_slice(),
+            b"acng-head 1\npath a\n\
+            origin imported ba7816bf8f01cfea414140de5dae2223b00361a396177a9cb410ff61f20015a\nsize 3\nchecked 9\nend\n"
+                .as_slice(),
         ),
         (
             false,
             "a hash of 65 digits",
-            b"acng-head 1\npath a\norigin imported ba7816bf8f01cfea414140de5dae2223b00361a396177a9cb410ff61f20015ad0\nsize 3\nchecked 9\nend\n".as_slice(),
+            b"acng-head 1\npath a\n\
+            origin imported ba7816bf8f01cfea414140de5dae2223b00361a396177a9cb410ff61f20015ad0\nsize 3\nchecked 9\nend\n"
+                .as_slice(),
         ),
         (
             false,
             "an import with a size of its own",
-            b"acng-head 1\npath a\norigin imported ba7816bf8f01cfea414140de5dae2223b00361a396177a9cb410ff61f20015ad 3\nsize 3\nchecked 9\nend\n".as_slice(),
+            b"acng-head 1\npath a\n\
+            origin imported ba7816bf8f01cfea414140de5dae2223b00361a396177a9cb410ff61f20015ad 3\nsize 3\nchecked 9\nend\n"
+                .as_slice(),
         ),
         (
             false,

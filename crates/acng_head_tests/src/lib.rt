@@ -1,0 +1,5 @@
+//! Tests of `acng_head` over its public calls, in a crate of their own so that its functions aren't proved once more.
+#![tactic(auto)]
+
+#[cfg(test)]
+mod records;
