@@ -10,7 +10,8 @@ use Rattle.hex.specs.Hex.{IsBytes, decode_sized}
 use Rattle.hex.proofs.HexLemmas.{decode_sized-encode_lower}
 use Rattle.acng_keeper.specs.Names.{digits_of}
 
-pub spelled : (name front prefix digits text : List ℕ) → bytes_eq (take (length front) name) front ≡ true → digits ≡ drop (length front) name → front ≡ prefix → digits ≡ text → name ≡ prefix ++ text
+pub spelled : (name front prefix digits text : List ℕ) → bytes_eq (take (length front) name) front ≡ true
+    → digits ≡ drop (length front) name → front ≡ prefix → digits ≡ text → name ≡ prefix ++ text
 spelled name front prefix digits text starts rest is same =
     sym (take-append-drop (length front) name)
     ∙ ap (λ t. t ++ drop (length front) name) ((bytes_eq-Decides (take (length front) name) front).0 starts ∙ is)
@@ -26,16 +27,19 @@ high_bytes (suc k) n zero = byte_small k n
 high_bytes (suc k) n (suc i) = high_bytes k n i
 
 -- what the digits of an id decode to
-decoded : (i : ℕ) (digits : List ℕ) (r : Result (List ℕ) FromHexError) → r ≡ decode_sized digits 8 → digits ≡ digits_of i → r ≡ Ok (to_be_bytes w64 i)
+decoded : (i : ℕ) (digits : List ℕ) (r : Result (List ℕ) FromHexError) → r ≡ decode_sized digits 8 → digits ≡ digits_of i
+    → r ≡ Ok (to_be_bytes w64 i)
 decoded i digits r is same = is ∙ ap (λ d. decode_sized d 8) same ∙ decode_sized-encode_lower (to_be_bytes w64 i) 8 refl (high_bytes 8 i)
 
-pub no_error : (i : ℕ) (digits : List ℕ) (r : Result (List ℕ) FromHexError) (e : FromHexError) → r ≡ decode_sized digits 8 → digits ≡ digits_of i → r ≡ Err e → ⊥
+pub no_error : (i : ℕ) (digits : List ℕ) (r : Result (List ℕ) FromHexError) (e : FromHexError) → r ≡ decode_sized digits 8
+    → digits ≡ digits_of i → r ≡ Err e → ⊥
 no_error i digits r e is same failed = let d = decoded i digits r is same in cc
 
 ok_same : (a b : List ℕ) (r : Result (List ℕ) FromHexError) → r ≡ Ok a → r ≡ Ok b → a ≡ b
 ok_same a b r x y = cc
 
-pub same_id : (i id : ℕ) (digits bytes : List ℕ) (r : Result (List ℕ) FromHexError) → i < 2 ^ 63 → r ≡ decode_sized digits 8 → digits ≡ digits_of i → r ≡ Ok bytes → id ≡ from_be_bytes w64 bytes → id ≡ i
+pub same_id : (i id : ℕ) (digits bytes : List ℕ) (r : Result (List ℕ) FromHexError) → i < 2 ^ 63 → r ≡ decode_sized digits 8
+    → digits ≡ digits_of i → r ≡ Ok bytes → id ≡ from_be_bytes w64 bytes → id ≡ i
 same_id i id digits bytes r small is same read value =
     let bytes_are : bytes ≡ to_be_bytes w64 i = ok_same bytes (to_be_bytes w64 i) r read (decoded i digits r is same) in
     value ∙ ap (from_be_bytes w64) bytes_are ∙ from_be_bytes-to_be_bytes_8 i (omega (arith, small))

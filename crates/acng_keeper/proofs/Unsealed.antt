@@ -73,4 +73,5 @@ module _ (old new image : Kept) (n m : ℕ) (sound : IsSound n old) (i : IsImage
   by_case id had false loose = refl
 
 pub image_apart : ImagesAreApart
-image_apart old new image n m sound i = record { each = λ id had. by_case old new image n m sound i id had (contains_key image.loose id) refl }
+image_apart old new image n m sound i =
+    record { each = λ id had. by_case old new image n m sound i id had (contains_key image.loose id) refl }

@@ -52,7 +52,13 @@ loose_after (BodyRemoved id) loose = map.remove loose id
 
 -- the effect, and its place at the end of the trail
 abbrev pub after : Effect → Kept → Kept
-after e k = record { heads = heads_after e k.heads; bodies = bodies_after e k.bodies; loose = loose_after e k.loose; taken = k.taken; trail = k.trail ++ e ∷ [] }
+after e k = record {
+  heads = heads_after e k.heads;
+  bodies = bodies_after e k.bodies;
+  loose = loose_after e k.loose;
+  taken = k.taken;
+  trail = k.trail ++ e ∷ [];
+}
 
 -- ---- what the calls without an effect make of it
 

@@ -53,7 +53,8 @@ both P old mid new a b = record {
 }
 
 -- an effect came
-pub comes : (P : Stored → Type 0) (e : Effect) (old new : Kept) → P (stored old) → P (changed_by e (stored old)) → new ≡ after e old → LeavesOnly P old new
+pub comes : (P : Stored → Type 0) (e : Effect) (old new : Kept) → P (stored old) → P (changed_by e (stored old)) → new ≡ after e old
+    → LeavesOnly P old new
 comes P e old new p q is = record { since = e ∷ []; trail = ap (λ k. k.trail) is; now = ap stored is; each = (p, q) }
 
 -- nothing came
@@ -61,7 +62,8 @@ pub stays : (P : Stored → Type 0) (old new : Kept) → P (stored old) → new 
 stays P old new p is = subst (λ k. LeavesOnly P old k) (sym is) (at_rest P old p)
 
 -- it came, or nothing did
-pub may_come : (P : Stored → Type 0) (e : Effect) (old new : Kept) → P (stored old) → P (changed_by e (stored old)) → MayCome e old new → LeavesOnly P old new
+pub may_come : (P : Stored → Type 0) (e : Effect) (old new : Kept) → P (stored old) → P (changed_by e (stored old)) → MayCome e old new
+    → LeavesOnly P old new
 may_come P e old new p q (inl is) = comes P e old new p q is
 may_come P e old new p q (inr is) = stays P old new p is
 
@@ -75,20 +77,29 @@ pub begins : {P : Stored → Type 0} {plan : List Effect} {k : Kept} → Along P
 begins {P} {plan} {k} a = record { leaves = at_rest P k (first P plan (stored k) a); ahead = a }
 
 -- the first effect ahead came
-pub came : {P : Stored → Type 0} {old mid new : Kept} {e : Effect} {es : List Effect} → Goes P old (e ∷ es) mid → new ≡ after e mid → Goes P old es new
+pub came : {P : Stored → Type 0} {old mid new : Kept} {e : Effect} {es : List Effect} → Goes P old (e ∷ es) mid → new ≡ after e mid
+    → Goes P old es new
 came {P} {old} {mid} {new} {e} {es} a is = record {
   leaves = both P old mid new a.leaves (comes P e mid new a.ahead.0 (first P es (changed_by e (stored mid)) a.ahead.1) is);
   ahead = subst (λ k. Along P es (stored k)) (sym is) a.ahead.1;
 }
 
 -- it was a removal, perhaps in vain
-pub removed : {P : Stored → Type 0} {old mid new : Kept} {e : Effect} {es : List Effect} {was : Bool} → Goes P old (e ∷ es) mid → Removes e was mid new → Goes P old es new
+pub removed : {P : Stored → Type 0} {old mid new : Kept} {e : Effect} {es : List Effect} {was : Bool} → Goes P old (e ∷ es) mid
+    → Removes e was mid new → Goes P old es new
 removed {was = true} a is = came a (is.comes refl)
-removed {P} {old} {mid} {new} {e} {es} {was = false} a is = record { leaves = both P old mid new a.leaves (stays P mid new a.ahead.0 (is.same refl)); ahead = subst (λ s. Along P es s) (sym is.gone) a.ahead.1 }
+removed {P} {old} {mid} {new} {e} {es} {was = false} a is =
+    record {
+      leaves = both P old mid new a.leaves (stays P mid new a.ahead.0 (is.same refl));
+      ahead = subst (λ s. Along P es s)
+          (sym is.gone) a.ahead.1;
+    }
 
 -- it was refused
-pub refused : {P : Stored → Type 0} {old mid new : Kept} {e : Effect} {es : List Effect} → Goes P old (e ∷ es) mid → MayCome e mid new → LeavesOnly P old new
-refused {P} {old} {mid} {new} {e} {es} a may = both P old mid new a.leaves (may_come P e mid new a.ahead.0 (first P es (changed_by e (stored mid)) a.ahead.1) may)
+pub refused : {P : Stored → Type 0} {old mid new : Kept} {e : Effect} {es : List Effect} → Goes P old (e ∷ es) mid → MayCome e mid new
+    → LeavesOnly P old new
+refused {P} {old} {mid} {new} {e} {es} a may =
+    both P old mid new a.leaves (may_come P e mid new a.ahead.0 (first P es (changed_by e (stored mid)) a.ahead.1) may)
 
 -- nothing came
 pub rested : {P : Stored → Type 0} {old mid new : Kept} {es : List Effect} → Goes P old es mid → new ≡ mid → Goes P old es new
@@ -105,16 +116,22 @@ along_more P Q more (e ∷ es) s a = (more s a.0, along_more P Q more es (change
 -- a plan goes along itself
 along_itself : (es : List Effect) (s : Stored) → Along (IsAlong es s) es s
 along_itself [] s = (0, refl)
-along_itself (e ∷ es) s = ((0, refl), along_more (IsAlong es (changed_by e s)) (IsAlong (e ∷ es) s) (λ t is. (suc is.0, is.1)) es (changed_by e s) (along_itself es (changed_by e s)))
+along_itself (e ∷ es) s = (
+  (0, refl),
+  along_more (IsAlong es (changed_by e s)) (IsAlong (e ∷ es) s) (λ t is. (suc is.0, is.1)) es (changed_by e s)
+      (along_itself es (changed_by e s)),
+)
 
 pub begins_itself : {plan : List Effect} {k : Kept} → Goes (IsAlong plan (stored k)) k plan k
 begins_itself {plan} {k} = begins (along_itself plan (stored k))
 
 -- what has P along the plan is all that is left
 pub leaves_more : (P Q : Stored → Type 0) (old new : Kept) → ((t : Stored) → P t → Q t) → LeavesOnly P old new → LeavesOnly Q old new
-leaves_more P Q old new more l = record { since = l.since; trail = l.trail; now = l.now; each = along_more P Q more l.since (stored old) l.each }
+leaves_more P Q old new more l =
+    record { since = l.since; trail = l.trail; now = l.now; each = along_more P Q more l.since (stored old) l.each }
 
-pub leaves_along : (P : Stored → Type 0) (plan : List Effect) (old new : Kept) → Along P plan (stored old) → LeavesOnly (IsAlong plan (stored old)) old new → LeavesOnly P old new
+pub leaves_along : (P : Stored → Type 0) (plan : List Effect) (old new : Kept) → Along P plan (stored old)
+    → LeavesOnly (IsAlong plan (stored old)) old new → LeavesOnly P old new
 leaves_along P plan old new a l = leaves_more (IsAlong plan (stored old)) P old new (λ t is. each_image P plan is.0 (stored old) t a is.1) l
 
 drop_front : {A : Type 0} (xs ys : List A) → drop (length xs) (xs ++ ys) ≡ ys
@@ -122,7 +139,8 @@ drop_front [] ys = refl
 drop_front (x ∷ xs) ys = drop_front xs ys
 
 -- each image has P
-pub image_has : {P : Stored → Type 0} {old new image : Kept} {old_next new_next : ℕ} → LeavesOnly P old new → IsImage old new old_next new_next image → P (stored image)
+pub image_has : {P : Stored → Type 0} {old new image : Kept} {old_next new_next : ℕ} → LeavesOnly P old new
+    → IsImage old new old_next new_next image → P (stored image)
 image_has {P} {old} {new} {image} l i =
     let same : since old new ≡ l.since = ap (drop (length old.trail)) l.trail ∙ drop_front old.trail l.since in
     each_image P l.since i.count (stored old) (stored image) l.each (i.made ∙ ap (λ es. changed (take i.count es) (stored old)) same)
@@ -140,5 +158,7 @@ image_at_rest k image next is = subst (λ i. IsImage k k next next i) (sym is) (
 })
 
 -- what a stop in or after one call leaves: its entry as before or after it, and all else as it was
-pub one_call : (e : Effect) (old new image : Kept) (old_next new_next : ℕ) → MayCome e old new → IsImage old new old_next new_next image → (stored image ≡ stored old) ⊎ (stored image ≡ changed_by e (stored old))
-one_call e old new image old_next new_next may i = image_has (may_come (λ t. (t ≡ stored old) ⊎ (t ≡ changed_by e (stored old))) e old new (inl refl) (inr refl) may) i
+pub one_call : (e : Effect) (old new image : Kept) (old_next new_next : ℕ) → MayCome e old new → IsImage old new old_next new_next image
+    → (stored image ≡ stored old) ⊎ (stored image ≡ changed_by e (stored old))
+one_call e old new image old_next new_next may i =
+    image_has (may_come (λ t. (t ≡ stored old) ⊎ (t ≡ changed_by e (stored old))) e old new (inl refl) (inr refl) may) i

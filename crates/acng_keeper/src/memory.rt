@@ -4,7 +4,9 @@
 //! want of memory leaves everything as it was too.
 #![tactic(auto, using(crate::proofs::Below::below))]
 
-ghost use Rattle.std.specs.Prelude.{◌≡◌, ◌||◌, ◌+◌, ◌<◌, ◌≤◌, ◌-◌, ◌^◌, ◌++◌, Bool, true, false, List, ℕ, [], ◌∷◌, length, nat_lt, min, take, drop, IfOk, OnOk, OnErr, IfErr, Some, None, refl, is_some};
+ghost use Rattle.std.specs.Prelude.{◌≡◌, ◌||◌, ◌+◌, ◌<◌, ◌≤◌, ◌-◌, ◌^◌, ◌++◌, Bool, true, false, List, ℕ, [], ◌∷◌};
+ghost use Rattle.std.specs.Prelude.{length, nat_lt, min, take, drop, IfOk, OnOk, OnErr, IfErr, Some, None, refl};
+ghost use Rattle.std.specs.Prelude.{is_some};
 ghost use Rattle.std.specs.Io.{ReadsAtMost};
 ghost use Rattle.std.specs.FinMap as map;
 ghost use Rattle.std.specs.List.Sorted.{IsStrictlySortedBy};

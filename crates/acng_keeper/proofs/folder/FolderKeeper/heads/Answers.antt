@@ -6,4 +6,5 @@ use Rattle.acng_keeper.proofs.folder.FolderKeeper.heads.Goals as goal
 
 pub returns : goal.returns
 returns g c =
-    heads_below c.args.self.now.next c.of.result c.in_ok-heads.heads (ap (from_entries {R = nat_cmp}) c.of.ensures ∙ c.in_ok-list.ensures.same) c.in_ok-heads.ensures
+    heads_below c.args.self.now.next c.of.result c.in_ok-heads.heads
+    (ap (from_entries {R = nat_cmp}) c.of.ensures ∙ c.in_ok-list.ensures.same) c.in_ok-heads.ensures

@@ -6,4 +6,5 @@ use Rattle.acng_keeper.proofs.memory.MemoryKeeperKeeper.list_heads.Goals as goal
 
 pub returns-clause-below : goal.returns-clause-below
 returns-clause-below c =
-    heads_below c.args.self.now.next c.of.result c.args.self.now.heads (ap (from_entries {R = nat_cmp}) c.of.ensures ∙ c.in_ok-list.ensures.same) c.args.self.now.heads_below
+    heads_below c.args.self.now.next c.of.result c.args.self.now.heads
+    (ap (from_entries {R = nat_cmp}) c.of.ensures ∙ c.in_ok-list.ensures.same) c.args.self.now.heads_below
