@@ -50,7 +50,8 @@ stop_same : (ps : List Place) (q : Place) (len n : ℕ) → q.start ≡ len → 
 stop_same [] q len n e = e
 stop_same (p ∷ ps) q len n e = refl
 
-field_same : (xs ys : List ℕ) (p : Place) (stop : ℕ) → p.start ≤ p.value → p.value ≤ stop → stop ≤ length xs → field_at (xs ++ ys) p stop ≡ field_at xs p stop
+field_same : (xs ys : List ℕ) (p : Place) (stop : ℕ) → p.start ≤ p.value → p.value ≤ stop → stop ≤ length xs
+    → field_at (xs ++ ys) p stop ≡ field_at xs p stop
 field_same xs ys p stop a b c =
     let name : part (xs ++ ys) p.start p.value ≡ part xs p.start p.value = part_more xs ys p.start p.value a (omega arith) in
     let value : part (xs ++ ys) p.value stop ≡ part xs p.value stop = part_more xs ys p.value stop b c in
@@ -63,8 +64,10 @@ part_of xs ys zs a b e f =
     let rest : drop a ((xs ++ ys) ++ zs) ≡ ys ++ zs = ap (drop a) (append_assoc xs ys zs) ∙ drop_at xs (ys ++ zs) a (sym e) in
     ap (λ t. take (b - a) t) rest ∙ take-append-le (b - a) ys zs (omega arith) ∙ take_all (b - a) ys (omega arith)
 
-pub add_field : (bytes name value : List ℕ) (ps : List Place) (q : Place) → q.start ≡ length bytes → q.value ≡ length (bytes ++ name) → AreInOrder (length bytes) ps
-    → fields_in ((bytes ++ name) ++ value) (ps ++ q ∷ []) ≡ fields_in bytes ps ++ record { name = name; value = value; line = q.line } ∷ []
+pub add_field : (bytes name value : List ℕ) (ps : List Place) (q : Place) → q.start ≡ length bytes
+    → q.value ≡ length (bytes ++ name) → AreInOrder (length bytes) ps
+    → fields_in ((bytes ++ name) ++ value) (ps ++ q ∷ [])
+    ≡ fields_in bytes ps ++ record { name = name; value = value; line = q.line } ∷ []
 add_field bytes name value [] q s v o =
     let whole = (bytes ++ name) ++ value in
     let size = length-append bytes name in
@@ -83,26 +86,31 @@ add_field bytes name value (p ∷ ps) q s v o =
     let rest = add_field bytes name value ps q s v o.2 in
     λ i. here i ∷ rest i
 
-pub in_order_add : (len n : ℕ) (ps : List Place) (q : Place) → q.start ≡ len → q.start ≤ q.value → q.value ≤ n → AreInOrder len ps → AreInOrder n (ps ++ q ∷ [])
+pub in_order_add : (len n : ℕ) (ps : List Place) (q : Place) → q.start ≡ len → q.start ≤ q.value → q.value ≤ n → AreInOrder len ps
+    → AreInOrder n (ps ++ q ∷ [])
 in_order_add len n [] q s a b o = (a, b, tt)
 in_order_add len n (p ∷ ps) q s a b o =
     (o.0, subst (λ k. p.value ≤ k) (sym (stop_same ps q len n s)) o.1, in_order_add len n ps q s a b o.2)
 
 -- ---- the last value goes on
 
-pub go_on_last : (bytes text : List ℕ) (p : Place) (ps : List Place) → AreInOrder (length bytes) (p ∷ ps) → go_on text (fields_in bytes (p ∷ ps)) ≡ Some (fields_in (bytes ++ 10 ∷ text) (p ∷ ps))
+pub go_on_last : (bytes text : List ℕ) (p : Place) (ps : List Place) → AreInOrder (length bytes) (p ∷ ps)
+    → go_on text (fields_in bytes (p ∷ ps)) ≡ Some (fields_in (bytes ++ 10 ∷ text) (p ∷ ps))
 go_on_last bytes text p [] o =
     let more = 10 ∷ text in
     let n : part bytes p.start p.value ≡ part (bytes ++ more) p.start p.value = sym (part_more bytes more p.start p.value o.0 o.1) in
-    let w : part bytes p.value (length bytes) ++ more ≡ part (bytes ++ more) p.value (length (bytes ++ more)) = sym (part_end bytes more p.value o.1) in
+    let w : part bytes p.value (length bytes) ++ more ≡ part (bytes ++ more) p.value (length (bytes ++ more)) =
+    sym (part_end bytes more p.value o.1) in
     λ i. Some (record { name = n i; value = w i; line = p.line } ∷ [])
 go_on_last bytes text p (q ∷ qs) o =
     let more = 10 ∷ text in
     let within = start_within (length bytes) (q ∷ qs) o.2 in
     let here : field_at bytes p q.start ≡ field_at (bytes ++ more) p q.start = sym (field_same bytes more p q.start o.0 o.1 within) in
-    ap (option_map (λ gs. field_at bytes p q.start ∷ gs)) (go_on_last bytes text q qs o.2) ∙ ap (λ f. Some (f ∷ fields_in (bytes ++ more) (q ∷ qs))) here
+    ap (option_map (λ gs. field_at bytes p q.start ∷ gs)) (go_on_last bytes text q qs o.2)
+    ∙ ap (λ f. Some (f ∷ fields_in (bytes ++ more) (q ∷ qs))) here
 
-pub go_on_some : (bytes text : List ℕ) (ps : List Place) → 0 < length (fields_in bytes ps) → AreInOrder (length bytes) ps → go_on text (fields_in bytes ps) ≡ Some (fields_in (bytes ++ 10 ∷ text) ps)
+pub go_on_some : (bytes text : List ℕ) (ps : List Place) → 0 < length (fields_in bytes ps) → AreInOrder (length bytes) ps
+    → go_on text (fields_in bytes ps) ≡ Some (fields_in (bytes ++ 10 ∷ text) ps)
 go_on_some bytes text [] some o = absurd (omega arith)
 go_on_some bytes text (p ∷ ps) some o = go_on_last bytes text p ps o
 
@@ -115,7 +123,8 @@ pub record StandsAt (bytes : List ℕ) (ps : List Place) (i : ℕ) (p : Place) :
   pub within : stop_of ps i (length bytes) ≤ length bytes
   pub is : nth (fields_in bytes ps) i ≡ field_at bytes p (stop_of ps i (length bytes))
 
-pub stands_at : (bytes : List ℕ) (ps : List Place) (i : ℕ) (p : Place) → i < length ps → p ≡ get_or ps i p → AreInOrder (length bytes) ps → StandsAt bytes ps i p
+pub stands_at : (bytes : List ℕ) (ps : List Place) (i : ℕ) (p : Place) → i < length ps → p ≡ get_or ps i p
+    → AreInOrder (length bytes) ps → StandsAt bytes ps i p
 stands_at bytes [] i p lt e o = absurd (omega arith)
 stands_at bytes (q ∷ qs) zero p lt e o =
     let stop = next_start qs (length bytes) in
@@ -131,7 +140,8 @@ stands_at bytes (q ∷ qs) zero p lt e o =
 stands_at bytes (q ∷ qs) (suc i) p lt e o =
     let rest = stands_at bytes qs i p (omega arith) e o.2 in
     let n : suc i + 1 ≡ suc (i + 1) = omega arith in
-    let same : stop_of qs i (length bytes) ≡ stop_of (q ∷ qs) (suc i) (length bytes) = ap (λ k. next_start (drop k (q ∷ qs)) (length bytes)) (sym n) in
+    let same : stop_of qs i (length bytes) ≡ stop_of (q ∷ qs) (suc i) (length bytes) =
+    ap (λ k. next_start (drop k (q ∷ qs)) (length bytes)) (sym n) in
     record {
       ordered = rest.ordered;
       name_within = rest.name_within;

@@ -9,15 +9,18 @@ use Rattle.acng_stanza.specs.declared.fault.StanzaFault.TheVariants.{NoMemory, B
 
 abbrev pub coded_field : Coded Field
 coded_field =
-    code_by (List ℕ × (List ℕ × ℕ)) (coded× (coded_list coded_ℕ) (coded× (coded_list coded_ℕ) coded_ℕ)) (λ f. (f.name, (f.value, f.line))) (λ p. record { name = p.0; value = p.1.0; line = p.1.1 }) (λ _. refl)
+    code_by (List ℕ × (List ℕ × ℕ)) (coded× (coded_list coded_ℕ) (coded× (coded_list coded_ℕ) coded_ℕ))
+    (λ f. (f.name, (f.value, f.line))) (λ p. record { name = p.0; value = p.1.0; line = p.1.1 }) (λ _. refl)
 
 abbrev pub coded_last : Coded Unfinished
 coded_last =
-    code_by (List Field × (ℕ × ℕ)) (coded× (coded_list coded_field) (coded× coded_ℕ coded_ℕ)) (λ f. (f.fields, (f.size, f.line))) (λ p. record { fields = p.0; size = p.1.0; line = p.1.1 }) (λ _. refl)
+    code_by (List Field × (ℕ × ℕ)) (coded× (coded_list coded_field) (coded× coded_ℕ coded_ℕ)) (λ f. (f.fields, (f.size, f.line)))
+    (λ p. record { fields = p.0; size = p.1.0; line = p.1.1 }) (λ _. refl)
 
 abbrev pub coded_lined : Coded Lined
 coded_lined =
-    code_by (List (List Field) × Unfinished) (coded× (coded_list (coded_list coded_field)) coded_last) (λ f. (f.waiting, f.last)) (λ p. record { waiting = p.0; last = p.1 }) (λ _. refl)
+    code_by (List (List Field) × Unfinished) (coded× (coded_list (coded_list coded_field)) coded_last) (λ f. (f.waiting, f.last))
+    (λ p. record { waiting = p.0; last = p.1 }) (λ _. refl)
 
 abbrev parts : StanzaFault → ℕ × ℕ
 parts NoMemory = (0, 0)
@@ -42,4 +45,5 @@ coded_fault = code_by (ℕ × ℕ) (coded× coded_ℕ coded_ℕ) parts (λ p. wh
 
 abbrev pub coded_reader : Coded Reader
 coded_reader =
-    code_by (Lined × (List ℕ × Option StanzaFault)) (coded× coded_lined (coded× (coded_list coded_ℕ) (coded_option coded_fault))) (λ r. (r.lines, (r.held, r.fault))) (λ p. record { lines = p.0; held = p.1.0; fault = p.1.1 }) (λ _. refl)
+    code_by (Lined × (List ℕ × Option StanzaFault)) (coded× coded_lined (coded× (coded_list coded_ℕ) (coded_option coded_fault)))
+    (λ r. (r.lines, (r.held, r.fault))) (λ p. record { lines = p.0; held = p.1.0; fault = p.1.1 }) (λ _. refl)

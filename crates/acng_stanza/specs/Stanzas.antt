@@ -95,7 +95,8 @@ text_step n fs size text =
 
 -- line n, where the stanza has these fields and this size so far
 abbrev pub step : ℕ → List Field → ℕ → List ℕ → Step
-step n fs size line = cond (nat_lt line_limit (length line)) (Refused (LineTooLong n)) (text_step n fs (size + length line) (trimmed line))
+step n fs size line =
+    cond (nat_lt line_limit (length line)) (Refused (LineTooLong n)) (text_step n fs (size + length line) (trimmed line))
 
 abbrev pub refused : StanzaFault → Reading
 refused f = record { stanzas = []; fault = Some f }

@@ -94,7 +94,8 @@ impl Lines {
 
     /// The first stanza that waits.
     pub fn next(&mut self) -> Option<Stanza>
-        ensures waiting { MatchOption result ((self.old.waiting ≡ []) × (self.new.waiting ≡ [])) (λ s. self.old.waiting ≡ s ∷ self.new.waiting) }
+        ensures waiting { MatchOption result ((self.old.waiting ≡ []) × (self.new.waiting ≡ []))
+            (λ s. self.old.waiting ≡ s ∷ self.new.waiting) }
         ensures last { self.new.last ≡ self.old.last }
     {
         self.waiting.pop_front()

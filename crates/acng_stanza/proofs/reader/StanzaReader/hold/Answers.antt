@@ -14,7 +14,8 @@ returns-then-part-len-clause-feeds c = λ _.
     let size = length-append in_.held.items part in
     let long : line_limit < length (in_.held.items ++ part) = omega arith in
     let here : RefusesPiece part (LineTooLong in_.lines.last.line) r r = too_long r part c.self.invariant.unbroken c.requires long in
-    let at : RefusesPiece part (LineTooLong c.line.result) r r = subst (λ (n : ℕ). RefusesPiece part (LineTooLong n) r r) (sym c.line.ensures) here in
+    let at : RefusesPiece part (LineTooLong c.line.result) r r =
+    subst (λ (n : ℕ). RefusesPiece part (LineTooLong n) r r) (sym c.line.ensures) here in
     subst (λ (v : Reader). RefusesPiece part (LineTooLong c.line.result) v v) c.self.view_is at
 
 pub invariant_of-self-2 : goal.invariant_of-self-2

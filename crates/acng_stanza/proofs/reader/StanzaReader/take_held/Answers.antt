@@ -10,5 +10,7 @@ returns-clause-feeds c =
     let r = c.take_line-taken.result in
     let old : Reader = record { lines = in_.lines; held = in_.held.items; fault = in_.fault } in
     let new : Reader = record { lines = c.take_line-taken.new.self; held = c.clear.new.self.items; fault = in_.fault } in
-    let line : FeedsLine in_.held.items in_.lines c.take_line-taken.new.self r = subst (λ (h : List ℕ). FeedsLine h in_.lines c.take_line-taken.new.self r) c.as_slice.ensures.value c.take_line-taken.ensures in
-    subst (λ (v : Reader). Feeds (10 ∷ []) v new r) c.self.view_is (feeds_held old new r c.self.invariant.unbroken c.clear.ensures.items line)
+    let line : FeedsLine in_.held.items in_.lines c.take_line-taken.new.self r =
+    subst (λ (h : List ℕ). FeedsLine h in_.lines c.take_line-taken.new.self r) c.as_slice.ensures.value c.take_line-taken.ensures in
+    subst (λ (v : Reader). Feeds (10 ∷ []) v new r) c.self.view_is
+    (feeds_held old new r c.self.invariant.unbroken c.clear.ensures.items line)

@@ -18,7 +18,8 @@ returns-in-Err-clause-feeds c = λ real.
     let n = next_line piece start c.in-Some.len c.loop-len.invariant.within (sym c.in-Some.ensures) in
     let k : start + c.in-Some.len - start ≡ c.in-Some.len = omega arith in
     left_refused piece start c.in-Some.len c.args.self.now c.loop-len.self c.take_end.new.self c.in-Err.fault n c.loop-len.invariant.left
-    (subst (λ j. RefusesPiece (take j (drop start piece) ++ 10 ∷ []) c.in-Err.fault c.loop-len.self c.take_end.new.self) k (c.in-Err.ensures.feeds real))
+    (subst (λ j. RefusesPiece (take j (drop start piece) ++ 10 ∷ []) c.in-Err.fault c.loop-len.self c.take_end.new.self) k
+    (c.in-Err.ensures.feeds real))
 
 pub loop-len-preserved : goal.loop-len-preserved
 loop-len-preserved c =
@@ -30,7 +31,8 @@ loop-len-preserved c =
       within = n.within;
       fault = c.take_end.ensures.fault ∙ c.loop-len.invariant.fault;
       left = left_step piece start c.in-Some.len c.args.self.now c.loop-len.self c.take_end.new.self n c.loop-len.invariant.left
-          (subst (λ j. TakesPiece (take j (drop start piece) ++ 10 ∷ []) c.loop-len.self c.take_end.new.self) k c.in_default-take_end.ensures.feeds);
+          (subst (λ j. TakesPiece
+          (take j (drop start piece) ++ 10 ∷ []) c.loop-len.self c.take_end.new.self) k c.in_default-take_end.ensures.feeds);
     }
 
 pub hold-requires : goal.hold-requires

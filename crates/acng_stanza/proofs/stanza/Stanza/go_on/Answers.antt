@@ -8,7 +8,8 @@ pub invariant_of-self-in_err-extend_from_slice : goal.invariant_of-self-in_err-e
 invariant_of-self-in_err-extend_from_slice c =
     let bytes = c.self.inside.bytes.items in
     let size : length c.push.new.self.items ≡ length bytes + 1 = ap length c.in_ok-push.ensures.items ∙ length-append bytes (10 ∷ []) in
-    let same : length c.extend_from_slice.new.self.items ≡ length c.push.new.self.items = ap length c.in_err-extend_from_slice.ensures.items in
+    let same : length c.extend_from_slice.new.self.items ≡ length c.push.new.self.items =
+    ap length c.in_err-extend_from_slice.ensures.items in
     in_order_more (length bytes) (length c.extend_from_slice.new.self.items) c.self.inside.places.items (omega arith) c.self.invariant
 
 pub invariant_of-self-2 : goal.invariant_of-self-2
@@ -16,7 +17,8 @@ invariant_of-self-2 c =
     let bytes = c.self.inside.bytes.items in
     let text = c.args.text.now in
     let size : length c.push.new.self.items ≡ length bytes + 1 = ap length c.in_ok-push.ensures.items ∙ length-append bytes (10 ∷ []) in
-    let more : length c.extend_from_slice.new.self.items ≡ length c.push.new.self.items + length text = ap length c.in_ok-extend_from_slice.ensures.items ∙ length-append c.push.new.self.items text in
+    let more : length c.extend_from_slice.new.self.items ≡ length c.push.new.self.items + length text =
+    ap length c.in_ok-extend_from_slice.ensures.items ∙ length-append c.push.new.self.items text in
     in_order_more (length bytes) (length c.extend_from_slice.new.self.items) c.self.inside.places.items (omega arith) c.self.invariant
 
 pub returns : goal.returns
@@ -27,4 +29,5 @@ returns c =
     let whole : c.extend_from_slice.new.self.items ≡ bytes ++ 10 ∷ text =
     c.in_ok-extend_from_slice.ensures.items ∙ ap (λ t. t ++ text) c.in_ok-push.ensures.items ∙ append_assoc bytes (10 ∷ []) text in
     let some : 0 < length (fields_in bytes places) = subst (λ (fs : List Field). 0 < length fs) (sym c.self.view_is) c.requires in
-    ap (go_on text) (sym c.self.view_is) ∙ go_on_some bytes text places some c.self.invariant ∙ ap (λ t. Some (fields_in t places)) (sym whole)
+    ap (go_on text) (sym c.self.view_is) ∙ go_on_some bytes text places some c.self.invariant
+    ∙ ap (λ t. Some (fields_in t places)) (sym whole)

@@ -21,7 +21,9 @@ span-requires-clause-ordered c =
     let there = is_there bytes places c.args.self.now c.args.i c.self.view_is c.requires in
     let at = stands_at bytes places c.args.i c.index.result.now there c.index.ensures c.self.invariant in
     let size : c.len.result ≡ length bytes = omega arith in
-    subst (λ k. c.index.result.now.value ≤ k) (sym (stop_is c.deref.result.now places c.args.i c.len.result (length bytes) c.stop-stop.result c.stop-stop.ensures c.deref.ensures.value size)) at.after
+    subst (λ k. c.index.result.now.value ≤ k)
+    (sym (stop_is c.deref.result.now places c.args.i c.len.result
+    (length bytes) c.stop-stop.result c.stop-stop.ensures c.deref.ensures.value size)) at.after
 
 pub span-requires-clause-within : goal.span-requires-clause-within
 span-requires-clause-within c =
@@ -30,7 +32,9 @@ span-requires-clause-within c =
     let there = is_there bytes places c.args.self.now c.args.i c.self.view_is c.requires in
     let at = stands_at bytes places c.args.i c.index.result.now there c.index.ensures c.self.invariant in
     let size : c.len.result ≡ length bytes = omega arith in
-    let stop : c.stop-stop.result ≡ stop_of places c.args.i (length bytes) = stop_is c.deref.result.now places c.args.i c.len.result (length bytes) c.stop-stop.result c.stop-stop.ensures c.deref.ensures.value size in
+    let stop : c.stop-stop.result ≡ stop_of places c.args.i (length bytes) =
+    stop_is c.deref.result.now places c.args.i c.len.result
+    (length bytes) c.stop-stop.result c.stop-stop.ensures c.deref.ensures.value size in
     let whole : length c.deref-2.result.now ≡ length bytes = ap length c.deref-2.ensures.value in
     omega (arith, at.within)
 
@@ -43,6 +47,8 @@ returns c =
     let there = is_there bytes places c.args.self.now i c.self.view_is c.requires in
     let at = stands_at bytes places i p there c.index.ensures c.self.invariant in
     let size : c.len.result ≡ length bytes = omega arith in
-    let stop : c.stop-stop.result ≡ stop_of places i (length bytes) = stop_is c.deref.result.now places i c.len.result (length bytes) c.stop-stop.result c.stop-stop.ensures c.deref.ensures.value size in
+    let stop : c.stop-stop.result ≡ stop_of places i (length bytes) =
+    stop_is c.deref.result.now places i c.len.result
+    (length bytes) c.stop-stop.result c.stop-stop.ensures c.deref.ensures.value size in
     c.span.ensures ∙ ap (λ (t : List ℕ). part t p.value c.stop-stop.result) c.deref-2.ensures.value ∙ ap (part bytes p.value) stop
     ∙ sym (ap (λ (f : Field). f.value) at.is) ∙ ap (λ (fs : List Field). (nth fs i).value) c.self.view_is
