@@ -1,0 +1,4 @@
+pub mod Entries
+pub mod Frames
+mod Rows
+pub mod Takers
