@@ -1,10 +1,119 @@
 //! The table of classes by its rows: each line on both sides.
-use acng_base::CachePath;
+//!
+//! A table is one text, cut at `|`, and the fields of a row at `^`.
+use acng_base::{CachePath, NoMemory};
 use acng_class::{Class, ClassFault, Classes};
 use acng_conf::read_conf;
 use std::alloc::Global;
 use std::process::Abort;
 use std::test::Fail;
+
+// Named by a hash: any length, either case, one of four hashes, and before the installer's line.
+const HASHES: &str = "\
+h/dists/s/main/by-hash/SHA256/00^Solid|\
+by-hash/MD5Sum/0123456789abcdef^Solid|\
+h/by-hash/SHA1/AF^Solid|\
+h/by-hash/SHA512/9^Solid|\
+h/by-hash/SHA384/00^Forbidden|\
+h/by-hash/sha256/00^Forbidden|\
+h/by-hash/SHA256/0g^Forbidden|\
+h/by-hash/SHA256/00/00^Forbidden|\
+h/xby-hash/SHA256/00^Forbidden|\
+SHA256/00^Forbidden|\
+00^Forbidden|\
+h/installer-amd64/by-hash/SHA256/00^Solid";
+
+// A difference of two indexes, and the list of them.
+const DIFFERENCES: &str = "\
+h/Packages.diff/Index^Volatile|\
+h/Packages.diff/Index.gz^Volatile|\
+h/Packages.diff/2020-01-01.gz^Solid|\
+h/Packages.diff/2020-01-01-0000^Solid|\
+h/Packages.diff/Packages^Solid|\
+h/.diff/Index.gz.gz^Solid|\
+Packages.diff^Forbidden|\
+h/Packages.diff/x/y^Forbidden|\
+h/Packages.difff/y^Forbidden";
+
+// Files that a repository writes anew.
+const INDEXES: &str = "\
+h/dists/s/InRelease^Volatile|\
+h/dists/s/Release^Volatile|\
+h/dists/s/Release.gpg^Volatile|\
+h/Packages^Volatile|\
+h/Packages.xz^Volatile|\
+h/Packages.gz.xz^Solid|\
+h/Sources.bz2^Volatile|\
+h/Index.lzma^Volatile|\
+ls-lR.zst^Volatile|\
+h/MD5SUMS^Volatile|\
+h/SHA256SUMS^Volatile|\
+h/SHA512SUMS^Forbidden|\
+h/Packages.deb^Solid|\
+h/packages^Forbidden|\
+h/Release/x^Forbidden";
+
+// How others of them begin.
+const FRONTS: &str = "\
+h/Contents-amd64.gz^Volatile|\
+h/Translation-en^Volatile|\
+h/Components-amd64.yml.xz^Volatile|\
+h/Commands-amd64^Volatile|\
+h/icons-64x64.tar.gz^Volatile|\
+h/Contents^Forbidden|\
+h/xicons-64^Forbidden|\
+h/Contents-amd64/x^Forbidden";
+
+// An installer's folder, wherever it stands.
+const INSTALLERS: &str = "\
+installer-amd64/current/images/x.deb^Volatile|\
+h/main/installer-arm64/x^Volatile|\
+h/installer-^Volatile|\
+h/my-installer-x/y^Forbidden|\
+h/installer/x^Forbidden";
+
+// Files that never change.
+const ENDINGS: &str = "\
+h/pool/main/a/a_1_all.deb^Solid|\
+h/a.udeb^Solid|\
+h/a.ddeb^Solid|\
+h/a.dsc^Solid|\
+h/a.tar.gz^Solid|\
+h/a.tar.xz^Solid|\
+h/a.tar.bz2^Solid|\
+h/a.lzma^Solid|\
+h/.zst^Solid|\
+h/a.asc^Solid|\
+h/a.changes^Solid|\
+h/a.buildinfo^Solid|\
+h/a.DEB^Forbidden|\
+h/a.tar^Forbidden|\
+h/a.deb/x^Forbidden|\
+h/adeb^Forbidden|\
+h/readme^Forbidden";
+
+// Further files, by the pattern of solid ones, the pattern of volatile ones (`-` for none), a path and its class. The
+// volatile pattern is asked before the endings and before the other one, and after the table's names; an empty pattern is
+// found in every path.
+const PATTERNS: &str = "\
+-^readme$^h/readme^Volatile|\
+-^readme$^h/readme/x^Forbidden|\
+\\.iso$^-^h/a.iso^Solid|\
+\\.iso$^-^h/a.img^Forbidden|\
+-^\\.deb$^h/a.deb^Volatile|\
+x^x^h/x^Volatile|\
+-^by-hash^h/by-hash/SHA1/0^Solid|\
+Release^-^h/Release^Volatile|\
+^-^h/readme^Solid|\
+-^^h/a.deb^Volatile";
+
+fn word(class: Class) -> &'static str {
+    match class {
+        Class::Solid => "Solid",
+        Class::Volatile => "Volatile",
+        Class::Forbidden => "Forbidden",
+    }
+}
 
 // The class of the path, under the two patterns.
 fn class_of(
@@ -26,231 +135,110 @@ fn class_of(
     class
 }
 
+fn expect_all(rt: &impl Abort, alloc: Global, rows: &str) -> Result<(), Fail> {
+    for row in rows.split('|') {
+        let (path, class) = row.split_once('^').ok_or("a row without its class")?;
+        let got = class_of(rt, alloc, None, None, path.as_bytes());
+        assert_eq!(rt; word(got), class, "{path}");
+    }
+    Ok(())
+}
+
 #[test]
 fn the_first_line_that_fits_decides(rt: HostRuntime) -> Result<(), Fail> {
-    for (path, class) in [
-        // named by a hash: any length, either case, one of four hashes
-        (b"h/dists/s/main/by-hash/SHA256/00".as_slice(), Class::Solid),
-        (b"by-hash/MD5Sum/0123456789abcdef".as_slice(), Class::Solid),
-        (b"h/by-hash/SHA1/AF".as_slice(), Class::Solid),
-        (b"h/by-hash/SHA512/9".as_slice(), Class::Solid),
-        (b"h/by-hash/SHA384/00".as_slice(), Class::Forbidden),
-        (b"h/by-hash/sha256/00".as_slice(), Class::Forbidden),
-        (b"h/by-hash/SHA256/0g".as_slice(), Class::Forbidden),
-        (b"h/by-hash/SHA256/00/00".as_slice(), Class::Forbidden),
-        (b"h/xby-hash/SHA256/00".as_slice(), Class::Forbidden),
-        (b"SHA256/00".as_slice(), Class::Forbidden),
-        (b"00".as_slice(), Class::Forbidden),
-        // the hash's line stands before the installer's
-        (
-            b"h/installer-amd64/by-hash/SHA256/00".as_slice(),
-            Class::Solid,
-        ),
-        // a difference of two indexes, and the list of them
-        (b"h/Packages.diff/Index".as_slice(), Class::Volatile),
-        (b"h/Packages.diff/Index.gz".as_slice(), Class::Volatile),
-        (b"h/Packages.diff/2020-01-01.gz".as_slice(), Class::Solid),
-        (b"h/Packages.diff/2020-01-01-0000".as_slice(), Class::Solid),
-        (b"h/Packages.diff/Packages".as_slice(), Class::Solid),
-        (b"h/.diff/Index.gz.gz".as_slice(), Class::Solid),
-        (b"Packages.diff".as_slice(), Class::Forbidden),
-        (b"h/Packages.diff/x/y".as_slice(), Class::Forbidden),
-        (b"h/Packages.difff/y".as_slice(), Class::Forbidden),
-        // files that a repository writes anew
-        (b"h/dists/s/InRelease".as_slice(), Class::Volatile),
-        (b"h/dists/s/Release".as_slice(), Class::Volatile),
-        (b"h/dists/s/Release.gpg".as_slice(), Class::Volatile),
-        (b"h/Packages".as_slice(), Class::Volatile),
-        (b"h/Packages.xz".as_slice(), Class::Volatile),
-        (b"h/Packages.gz.xz".as_slice(), Class::Solid),
-        (b"h/Sources.bz2".as_slice(), Class::Volatile),
-        (b"h/Index.lzma".as_slice(), Class::Volatile),
-        (b"ls-lR.zst".as_slice(), Class::Volatile),
-        (b"h/MD5SUMS".as_slice(), Class::Volatile),
-        (b"h/SHA256SUMS".as_slice(), Class::Volatile),
-        (b"h/SHA512SUMS".as_slice(), Class::Forbidden),
-        (b"h/Packages.deb".as_slice(), Class::Solid),
-        (b"h/packages".as_slice(), Class::Forbidden),
-        (b"h/Release/x".as_slice(), Class::Forbidden),
-    ] {
-        assert_eq!(rt;
-            class_of(&rt, rt.alloc(), None, None, path),
-            class,
-            "{path:?}"
-        );
-    }
+    expect_all(&rt, rt.alloc(), HASHES)?;
+    expect_all(&rt, rt.alloc(), DIFFERENCES)?;
+    expect_all(&rt, rt.alloc(), INDEXES)?;
     Ok(())
 }
 
 #[test]
 fn fronts_and_endings_tell_a_class(rt: HostRuntime) -> Result<(), Fail> {
-    for (path, class) in [
-        (b"h/Contents-amd64.gz".as_slice(), Class::Volatile),
-        (b"h/Translation-en".as_slice(), Class::Volatile),
-        (b"h/Components-amd64.yml.xz".as_slice(), Class::Volatile),
-        (b"h/Commands-amd64".as_slice(), Class::Volatile),
-        (b"h/icons-64x64.tar.gz".as_slice(), Class::Volatile),
-        (b"h/Contents".as_slice(), Class::Forbidden),
-        (b"h/xicons-64".as_slice(), Class::Forbidden),
-        (b"h/Contents-amd64/x".as_slice(), Class::Forbidden),
-        // an installer's folder, wherever it stands
-        (
-            b"installer-amd64/current/images/x.deb".as_slice(),
-            Class::Volatile,
-        ),
-        (b"h/main/installer-arm64/x".as_slice(), Class::Volatile),
-        (b"h/installer-".as_slice(), Class::Volatile),
-        (b"h/my-installer-x/y".as_slice(), Class::Forbidden),
-        (b"h/installer/x".as_slice(), Class::Forbidden),
-        // files that never change
-        (b"h/pool/main/a/a_1_all.deb".as_slice(), Class::Solid),
-        (b"h/a.udeb".as_slice(), Class::Solid),
-        (b"h/a.ddeb".as_slice(), Class::Solid),
-        (b"h/a.dsc".as_slice(), Class::Solid),
-        (b"h/a.tar.gz".as_slice(), Class::Solid),
-        (b"h/a.tar.xz".as_slice(), Class::Solid),
-        (b"h/a.tar.bz2".as_slice(), Class::Solid),
-        (b"h/a.lzma".as_slice(), Class::Solid),
-        (b"h/.zst".as_slice(), Class::Solid),
-        (b"h/a.asc".as_slice(), Class::Solid),
-        (b"h/a.changes".as_slice(), Class::Solid),
-        (b"h/a.buildinfo".as_slice(), Class::Solid),
-        (b"h/a.DEB".as_slice(), Class::Forbidden),
-        (b"h/a.tar".as_slice(), Class::Forbidden),
-        (b"h/a.deb/x".as_slice(), Class::Forbidden),
-        (b"h/adeb".as_slice(), Class::Forbidden),
-        (b"h/readme".as_slice(), Class::Forbidden),
-    ] {
-        assert_eq!(rt;
-            class_of(&rt, rt.alloc(), None, None, path),
-            class,
-            "{path:?}"
-        );
-    }
+    expect_all(&rt, rt.alloc(), FRONTS)?;
+    expect_all(&rt, rt.alloc(), INSTALLERS)?;
+    expect_all(&rt, rt.alloc(), ENDINGS)?;
     Ok(())
+}
+
+fn some_pattern(field: &str) -> Option<&[u8]> {
+    if field == "-" {
+        None
+    } else {
+        Some(field.as_bytes())
+    }
 }
 
 #[test]
 fn patterns_name_further_files(rt: HostRuntime) -> Result<(), Fail> {
-    for (solid, volatile, path, class) in [
-        // found at the path's end
-        (
-            None,
-            Some(b"readme$".as_slice()),
-            b"h/readme".as_slice(),
-            Class::Volatile,
-        ),
-        (
-            None,
-            Some(b"readme$".as_slice()),
-            b"h/readme/x".as_slice(),
-            Class::Forbidden,
-        ),
-        (
-            Some(b"\\.iso$".as_slice()),
-            None,
-            b"h/a.iso".as_slice(),
-            Class::Solid,
-        ),
-        (
-            Some(b"\\.iso$".as_slice()),
-            None,
-            b"h/a.img".as_slice(),
-            Class::Forbidden,
-        ),
-        // the volatile pattern is asked before the endings and before the other one, and after the table's names
-        (
-            None,
-            Some(b"\\.deb$".as_slice()),
-            b"h/a.deb".as_slice(),
-            Class::Volatile,
-        ),
-        (
-            Some(b"x".as_slice()),
-            Some(b"x".as_slice()),
-            b"h/x".as_slice(),
-            Class::Volatile,
-        ),
-        (
-            None,
-            Some(b"by-hash".as_slice()),
-            b"h/by-hash/SHA1/0".as_slice(),
-            Class::Solid,
-        ),
-        (
-            Some(b"Release".as_slice()),
-            None,
-            b"h/Release".as_slice(),
-            Class::Volatile,
-        ),
-        // an empty pattern is found in every path
-        (
-            Some(b"".as_slice()),
-            None,
-            b"h/readme".as_slice(),
-            Class::Solid,
-        ),
-        (
-            None,
-            Some(b"".as_slice()),
-            b"h/a.deb".as_slice(),
-            Class::Volatile,
-        ),
-    ] {
-        assert_eq!(rt;
-            class_of(&rt, rt.alloc(), solid, volatile, path),
-            class,
-            "{path:?}"
-        );
+    for row in PATTERNS.split('|') {
+        let (solid, rest) = row.split_once('^').ok_or("a row of one field")?;
+        let (volatile, rest) = rest.split_once('^').ok_or("a row of two fields")?;
+        let (path, class) = rest.split_once('^').ok_or("a row of three fields")?;
+        let (solid, volatile) = (some_pattern(solid), some_pattern(volatile));
+        let got = class_of(&rt, rt.alloc(), solid, volatile, path.as_bytes());
+        assert_eq!(rt; word(got), class, "{row}");
     }
     Ok(())
 }
 
-#[test]
-fn a_text_that_is_no_pattern_is_refused(rt: HostRuntime) -> Result<(), Fail> {
-    for (solid, volatile, fault) in [
-        (None, None, None),
-        (Some(b"".as_slice()), Some(b"".as_slice()), None),
-        (Some(b"[".as_slice()), None, Some(ClassFault::BadSolid)),
-        (None, Some(b"[".as_slice()), Some(ClassFault::BadVolatile)),
-        (
-            Some(b"(".as_slice()),
-            Some(b"[".as_slice()),
-            Some(ClassFault::BadSolid),
-        ),
-        (Some(b"\xff".as_slice()), None, Some(ClassFault::BadSolid)),
-        (
-            Some(b"a".as_slice()),
-            Some(b"a\xc3".as_slice()),
-            Some(ClassFault::BadVolatile),
-        ),
-    ] {
-        match Classes::by_patterns(rt.alloc(), solid, volatile) {
-            Ok(_) => assert_eq!(rt; None, fault),
-            Err(refused) => assert_eq!(rt; Some(refused), fault),
-        }
+// Why no table is made with these two patterns.
+fn refusal(alloc: Global, solid: Option<&[u8]>, volatile: Option<&[u8]>) -> Option<ClassFault> {
+    match Classes::by_patterns(alloc, solid, volatile) {
+        Ok(_) => None,
+        Err(fault) => Some(fault),
     }
-    Ok(())
 }
 
 #[test]
-fn a_configuration_gives_the_patterns(rt: HostRuntime) -> Result<(), Fail> {
-    let alloc = rt.alloc();
+fn a_text_that_is_no_pattern_is_refused(rt: HostRuntime) {
+    let (solid, volatile) = (Some(ClassFault::BadSolid), Some(ClassFault::BadVolatile));
+    let bad = Some(b"[".as_slice());
+    assert_eq!(rt; refusal(rt.alloc(), None, None), None);
+    assert_eq!(rt; refusal(rt.alloc(), Some(b""), Some(b"")), None);
+    assert_eq!(rt; refusal(rt.alloc(), bad, None), solid);
+    assert_eq!(rt; refusal(rt.alloc(), None, bad), volatile);
+    assert_eq!(rt; refusal(rt.alloc(), Some(b"("), bad), solid);
+    assert_eq!(rt; refusal(rt.alloc(), Some(b"\xff"), None), solid);
+    assert_eq!(rt; refusal(rt.alloc(), Some(b"a"), Some(b"a\xc3")), volatile);
+}
+
+// The class of `h/readme` under a configuration, and the same by its rules.
+fn by_text(rt: &impl Abort, alloc: Global, text: &[u8]) -> (Class, Class) {
+    let Ok(conf) = read_conf(alloc, text, &[]) else {
+        panic!(rt; "no configuration");
+    };
+    let Ok(rules) = conf.rules(alloc) else {
+        panic!(rt; "no rules");
+    };
+    (
+        readme(rt, alloc, Classes::of(alloc, &conf)),
+        readme(rt, alloc, Classes::by_rules(alloc, &rules)),
+    )
+}
+
+fn readme(rt: &impl Abort, alloc: Global, classes: Result<Classes, NoMemory>) -> Class {
+    let Ok(path) = CachePath::read(alloc, b"h/readme") else {
+        panic!(rt; "no path");
+    };
+    let Ok(mut classes) = classes else {
+        panic!(rt; "no classes");
+    };
+    let Ok(class) = classes.class_of(alloc, &path) else {
+        panic!(rt; "no memory");
+    };
+    class
+}
+
+#[test]
+fn a_configuration_gives_the_patterns(rt: HostRuntime) {
     for (text, class) in [
         (b"".as_slice(), Class::Forbidden),
-        (b"VfilePatternEx: readme$".as_slice(), Class::Volatile),
-        (b"PfilePatternEx: readme$".as_slice(), Class::Solid),
-        (b"PfilePatternEx:".as_slice(), Class::Solid),
+        (b"VfilePatternEx: readme$", Class::Volatile),
+        (b"PfilePatternEx: readme$", Class::Solid),
+        (b"PfilePatternEx:", Class::Solid),
     ] {
-        let conf = read_conf(alloc, text, &[]).map_err(|_| "refused")?;
-        let path = CachePath::read(alloc, b"h/readme").map_err(|_| "no path")?;
-        let mut classes = Classes::of(alloc, &conf).map_err(|_| "memory")?;
-        let got = classes.class_of(alloc, &path).map_err(|_| "memory")?;
-        assert_eq!(rt; got, class, "{text:?}");
-        let rules = conf.rules(alloc).map_err(|_| "memory")?;
-        let mut copied = Classes::by_rules(alloc, &rules).map_err(|_| "memory")?;
-        let again = copied.class_of(alloc, &path).map_err(|_| "memory")?;
-        assert_eq!(rt; again, class, "{text:?}");
+        let (whole, copied) = by_text(&rt, rt.alloc(), text);
+        assert_eq!(rt; whole, class, "{text:?}");
+        assert_eq!(rt; copied, class, "{text:?}");
     }
-    Ok(())
 }

@@ -95,12 +95,12 @@ fn read_text(
     lists: &[ListFile],
     over: bool,
     text: &[u8],
-    start_conf: Conf,
+    conf: Conf,
 ) -> Result<Conf, ConfFault>
     requires { length text.now ≤ most_text }
-    ensures { GivesAt (after_lines over lists.now 1 start_conf (pieces text.now)) result }
+    ensures { GivesAt (after_lines over lists.now 1 conf (pieces text.now)) result }
 {
-    let mut conf = start_conf;
+    let mut conf = conf;
     let mut line = 1;
     let mut start = 0;
     while let Some(len) = next_line_feed(&text[start..]) {

@@ -47,7 +47,7 @@ returns c =
     let text = a.text.now in
     let start = c.loop-len.start in
     let n = c.loop-len.line in
-    let same : at_line n (cond a.over (Err TooLong) (after_line a.lists.now n c.loop-len.conf (take (length text - start) (drop start text)))) ≡ after_lines a.over a.lists.now 1 a.start_conf (pieces text) =
+    let same : at_line n (cond a.over (Err TooLong) (after_line a.lists.now n c.loop-len.conf (take (length text - start) (drop start text)))) ≡ after_lines a.over a.lists.now 1 a.conf (pieces text) =
     ap (λ (t : List ℕ). at_line n (cond a.over (Err TooLong) (after_line a.lists.now n c.loop-len.conf t))) (rest_is_drop start text)
     ∙ sym (c.loop-len.invariant.same ∙ lines_last a.over a.lists.now n c.loop-len.conf text start (sym c.in_default.ensures)) in
     subst (λ (e : Result Settings ConfFault). GivesAt e c.read_last.result) same c.read_last.ensures

@@ -8,7 +8,8 @@ invariant-loop-len l = record {
   within : l.start ≤ length l.text;
   small : length l.text ≤ 4194304;
   few : l.line ≤ l.start + 1;
-  same : after_lines l.over l.lists 1 l.fn.start_conf (pieces l.text) ≡ after_lines l.over l.lists l.line l.conf (pieces (drop l.start l.text));
+  same : after_lines l.over l.lists 1 l.fn.conf (pieces l.text)
+      ≡ after_lines l.over l.lists l.line l.conf (pieces (drop l.start l.text));
 }
 
 abbrev pub decreases-loop-len : goal.decreases-loop-len
