@@ -110,7 +110,8 @@ on_seam next at (Joined rest) = next (at + 2) rest
 -- a chunk's n bytes, and what `next` reads of the text after the CR LF, by what is left of the part
 abbrev pub on_bytes : (Option ℕ → ℕ → List ℕ → Reading) → ℕ → Option ℕ → ℕ → Bool → List ℕ → Bool → Reading
 on_bytes next n part at ended text true = just text (wants_more ended)
-on_bytes next n part at ended text false = after_body (take n text) (on_seam (next (part_after part n)) (at + n) (seam (at + n) ended (drop n text)))
+on_bytes next n part at ended text false =
+    after_body (take n text) (on_seam (next (part_after part n)) (at + n) (seam (at + n) ended (drop n text)))
 
 abbrev pub on_room : (Option ℕ → ℕ → List ℕ → Reading) → ℕ → Option ℕ → ℕ → Bool → List ℕ → Option ℕ → Reading
 on_room next n part at ended text (Some m) = overfull m at ended text
@@ -132,7 +133,8 @@ on_line next part at ended text (Some n) = on_size next part (at + n) at ended (
 -- chunks, and the lines after the last one; the fuel is more than the text's length
 abbrev pub chunks : ℕ → Option ℕ → ℕ → Bool → List ℕ → Reading
 chunks zero part at ended text = nothing (wants_more ended)
-chunks (suc fuel) part at ended text = on_line (λ p a rest. chunks fuel p a ended rest) part at ended text (first_line_len (take 1024 text))
+chunks (suc fuel) part at ended text =
+    on_line (λ p a rest. chunks fuel p a ended rest) part at ended text (first_line_len (take 1024 text))
 
 abbrev pub from_chunk : Option ℕ → ℕ → Bool → List ℕ → Reading
 from_chunk part at ended text = chunks (suc (length text)) part at ended text

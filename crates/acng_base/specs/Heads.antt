@@ -34,17 +34,23 @@ reason_of (b ∷ bs) = Some bs
 -- a block's lines as the parts of a response head, whether they are one or not
 abbrev pub guess : List (List ℕ × LineEnd) → ResponseHead
 guess [] = record { blank = []; minor = 0; digits = []; reason = None; line_end = lf; fields = []; last = lf }
-guess (([], e) ∷ ls) = let h = guess ls in record { blank = e ∷ h.blank; minor = h.minor; digits = h.digits; reason = h.reason; line_end = h.line_end; fields = h.fields; last = h.last }
+guess (([], e) ∷ ls) =
+    let h = guess ls in
+    record { blank = e ∷ h.blank; minor = h.minor; digits = h.digits; reason = h.reason; line_end = h.line_end;
+        fields = h.fields; last = h.last }
 guess ((b ∷ line, e) ∷ ls) =
     let after = fields_of ls in
-    record { blank = []; minor = slice_index line 6 - 48; digits = take 3 (drop 8 line); reason = reason_of (drop 11 line); line_end = e; fields = after.0; last = after.1 }
+    record { blank = []; minor = slice_index line 6 - 48; digits = take 3 (drop 8 line); reason = reason_of (drop 11 line);
+        line_end = e; fields = after.0; last = after.1 }
 
 abbrev pub is_field : Field → Bool
 is_field f = is_token f.name && list_all is_value_byte f.raw
 
 -- each part is of its class
 abbrev pub is_response_head : ResponseHead → Bool
-is_response_head h = nat_le h.minor 1 && length h.digits == 3 && list_all is_ascii_digit h.digits && list_all is_value_byte (reason_phrase h.reason) && list_all is_field h.fields
+is_response_head h =
+    nat_le h.minor 1 && length h.digits == 3 && list_all is_ascii_digit h.digits
+    && list_all is_value_byte (reason_phrase h.reason) && list_all is_field h.fields
 
 -- the response head at the front of a block
 abbrev pub response_of : List ℕ → Option ResponseHead
@@ -54,7 +60,10 @@ response_of block =
 
 -- the same with at most 64 fields, as status and fields
 abbrev pub head_of : List ℕ → Option Head
-head_of block = option_and_then (λ h. cond (nat_le (length h.fields) 64) (Some (record { status = status_code h; fields = map name_and_value h.fields })) None) (response_of block)
+head_of block =
+    option_and_then
+    (λ h. cond (nat_le (length h.fields) 64) (Some (record { status = status_code h; fields = map name_and_value h.fields })) None)
+    (response_of block)
 
 -- the values of the fields of this name, letters' case aside
 abbrev pub values : List ℕ → List (List ℕ × List ℕ) → List (List ℕ)

@@ -3,7 +3,6 @@ pub mod Buffers
 pub mod Causes
 pub mod Cuts
 pub mod Fields
-pub mod First
 pub mod Framings
 pub mod Heads
 pub mod Lines

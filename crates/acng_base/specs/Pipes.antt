@@ -45,7 +45,8 @@ ReadsAs old new len result =
 abbrev pub WritesAs : {E : Type 0} → Pipe → Pipe → List ℕ → Result ℕ E → Type 0
 WritesAs old new piece result =
     MatchResult result
-    (λ n. ((fails old || old.room == 0) ≡ false) × (n ≡ min (min (length piece) old.cut) old.room) × (new ≡ after_write old (take n piece)))
+    (λ n. ((fails old || old.room == 0) ≡ false) × (n ≡ min (min (length piece) old.cut) old.room)
+        × (new ≡ after_write old (take n piece)))
     (λ _. ((fails old || old.room == 0) ≡ true) × (new ≡ after_fault old))
 
 -- a pipe of which nothing was used yet
