@@ -3,8 +3,8 @@ use Rattle.std.proofs.Common.{◌≡◌, ℕ, ◌^◌, true, false, List, [], �
 use Rattle.httparse.specs.Grammar.{is_token_byte, print_response, print_chunk_line, trim_ows}
 use Rattle.httpdate.proofs.OnLiterals.{httpdate_on_literals}
 use Rattle.acng_base.specs.Heads.{Head}
-use Rattle.acng_base.specs.Fields.{length_of, agreed, range_of, content_range, tag_of, modified_of, location_of}
-use Rattle.acng_base.specs.Framings.{Empty, Chunks, ToEnd, Counted, framing, total_of, due_of}
+use Rattle.acng_base.specs.Fields.{length_of, agreed, range_of, tag_of, modified_of, location_of}
+use Rattle.acng_base.specs.Framings.{Empty, Chunks, Counted, framing, total_of, due_of}
 use Rattle.acng_base.specs.SizeLines.{size_of}
 use Rattle.acng_base.specs.Answers.{Whole, Early, Open, Bad, reading}
 

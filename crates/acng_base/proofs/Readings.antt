@@ -1,14 +1,14 @@
 -- What is true of every reading of an answer: it is Open only where the connection goes on, Whole only behind a head that
 -- is taken, and it has the bytes that its head says are due.
-use Rattle.std.proofs.Common.{◌≡◌, ℕ, zero, suc, ◌+◌, ◌-◌, ◌<◌, ◌≤◌, ◌⊎◌, inl, inr, Bool, true, false, List, [], ◌∷◌, ◌++◌, take, drop, Option, Some, None, cond, nat_le, nat_lt, ◌==◌, ◌≢◌, ◌||◌, length, length-append, refl, sym, ap, subst, ◌∙◌, arith, min, option_map, codes}
+use Rattle.std.proofs.Common.{◌≡◌, ℕ, zero, suc, ◌+◌, ◌-◌, ◌<◌, ◌≤◌, ◌⊎◌, inl, inr, Bool, true, false, List, [], ◌∷◌, take, drop, Option, Some, None, cond, nat_le, nat_lt, ◌==◌, ◌≢◌, ◌||◌, length, length-append, refl, sym, ap, subst, ◌∙◌, arith, min, codes}
 use Rattle.std.specs.Option.{option_or}
 use Rattle.std.proofs.lemmas.Bool.Decides.{leb_tells, eqb_tells}
 use Rattle.std.proofs.lemmas.List.{length-take-le, length-take}
 use Rattle.acng_base.specs.Lines.{head_block_len, section_len}
 use Rattle.acng_base.specs.Heads.{Head, head_of, values}
-use Rattle.acng_base.specs.Framings.{Framing, Empty, Chunks, ToEnd, Counted, framing, part_len, stated_length, due_of, count_by, counted, by_length, by_encoding}
+use Rattle.acng_base.specs.Framings.{Framing, Empty, Chunks, ToEnd, Counted, framing, part_len, due_of, count_by, counted, by_length, by_encoding}
 use Rattle.acng_base.specs.SizeLines.{first_line_len, size_of}
-use Rattle.acng_base.specs.Answers.{Outcome, Whole, Early, Open, Bad, Reading, reading, nothing, just, after_body, wants_more, unended, counted_body, open_body, on_trailer, trailer, Seam, Joined, Torn, seam, part_after, less_than, is_due, on_last, last_chunk, overfull, on_seam, on_bytes, on_room, chunk_bytes, on_size, on_line, chunks, from_chunk, body, is_interim, framed, on_kind, on_head, on_block, heads, from_head, cut_off, at_limit, on_limit, EndsWell, HasBytes, HasDue, IsTaken}
+use Rattle.acng_base.specs.Answers.{Outcome, Whole, Early, Open, Bad, Reading, reading, nothing, just, after_body, wants_more, counted_body, open_body, on_trailer, trailer, Seam, Joined, Torn, seam, part_after, less_than, is_due, on_last, last_chunk, overfull, on_seam, on_bytes, on_room, chunk_bytes, on_size, on_line, chunks, body, is_interim, framed, on_kind, on_head, on_block, heads, from_head, cut_off, at_limit, on_limit, EndsWell, HasBytes, HasDue, IsTaken}
 
 -- ---- ends
 

@@ -1,7 +1,7 @@
 -- Lines, cuts, names and numbers, held against literal texts. Expected values are by hand.
 use Rattle.std.proofs.Common.{◌≡◌, ℕ, List, [], ◌∷◌, ◌++◌, Some, None, codes, refl}
 use Rattle.acng_base.specs.Lines.{head_block_len, section_len}
-use Rattle.acng_base.specs.Cuts.{is_blank, pieces, trim, without_cr, words}
+use Rattle.acng_base.specs.Cuts.{pieces, trim, without_cr, words}
 use Rattle.acng_base.specs.Names.{base_name, folder_of, from_last}
 use Rattle.acng_base.specs.Numbers.{number_of}
 use Rattle.acng_base.specs.Fields.{length_of}

@@ -1,5 +1,5 @@
 -- What the fields of an answer's head say, each as a function of the head (RFC 9110).
-use Rattle.std.specs.Prelude.{ℕ, ◌+◌, ◌^◌, Bool, false, ◌&&◌, ◌==◌, List, [], ◌∷◌, length, take, drop, slice_index, cond, codes, nat_le, nat_lt, bytes_eq, Option, Some, None, option_map, option_and_then}
+use Rattle.std.specs.Prelude.{ℕ, ◌^◌, Bool, false, ◌&&◌, ◌==◌, List, [], ◌∷◌, length, take, drop, slice_index, cond, codes, nat_le, nat_lt, bytes_eq, Option, Some, None, option_map, option_and_then}
 use Rattle.std.specs.List.{list_all}
 use Rattle.std.specs.Char.{is_ascii_digit}
 use Rattle.std.specs.Str.Parse.{digits_value}

@@ -36,12 +36,26 @@ abbrev pub guess : List (List ℕ × LineEnd) → ResponseHead
 guess [] = record { blank = []; minor = 0; digits = []; reason = None; line_end = lf; fields = []; last = lf }
 guess (([], e) ∷ ls) =
     let h = guess ls in
-    record { blank = e ∷ h.blank; minor = h.minor; digits = h.digits; reason = h.reason; line_end = h.line_end;
-        fields = h.fields; last = h.last }
+    record {
+      blank = e ∷ h.blank;
+      minor = h.minor;
+      digits = h.digits;
+      reason = h.reason;
+      line_end = h.line_end;
+      fields = h.fields;
+      last = h.last;
+    }
 guess ((b ∷ line, e) ∷ ls) =
     let after = fields_of ls in
-    record { blank = []; minor = slice_index line 6 - 48; digits = take 3 (drop 8 line); reason = reason_of (drop 11 line);
-        line_end = e; fields = after.0; last = after.1 }
+    record {
+      blank = [];
+      minor = slice_index line 6 - 48;
+      digits = take 3 (drop 8 line);
+      reason = reason_of (drop 11 line);
+      line_end = e;
+      fields = after.0;
+      last = after.1;
+    }
 
 abbrev pub is_field : Field → Bool
 is_field f = is_token f.name && list_all is_value_byte f.raw

@@ -46,7 +46,7 @@ abbrev pub WritesAs : {E : Type 0} → Pipe → Pipe → List ℕ → Result ℕ
 WritesAs old new piece result =
     MatchResult result
     (λ n. ((fails old || old.room == 0) ≡ false) × (n ≡ min (min (length piece) old.cut) old.room)
-        × (new ≡ after_write old (take n piece)))
+    × (new ≡ after_write old (take n piece)))
     (λ _. ((fails old || old.room == 0) ≡ true) × (new ≡ after_fault old))
 
 -- a pipe of which nothing was used yet
