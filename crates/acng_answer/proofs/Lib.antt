@@ -1,3 +1,11 @@
-pub mod FramingLemmas
+pub mod BodyLemmas
+pub mod ChunkLemmas
+pub mod DueLemmas
+pub mod EndLemmas
+pub mod FieldLemmas
+pub mod HeadSteps
 pub mod LimitLemmas
-pub mod StageLemmas
+pub mod SizeGrammar
+pub mod SizeSteps
+pub mod Texts
+pub mod TrailerSteps

@@ -9,7 +9,7 @@ use Rattle.acng_answer.specs.declared.step.AnswerHead.{AnswerHead}
 use Rattle.acng_answer.specs.declared.step.Step.{Step}
 use Rattle.acng_answer.specs.declared.step.Step.TheVariants as steps
 use Rattle.acng_answer.specs.Reader.{Tells, TellsEnd}
-use Rattle.acng_answer.proofs.StageLemmas.{take_over, same_le}
+use Rattle.acng_answer.proofs.Texts.{take_over, same_le}
 
 abbrev capped : Bool → ℕ → Reading → Reading
 capped true limit r = r
@@ -109,20 +109,20 @@ module _ (left limit used : ℕ) (piece : List ℕ) (old new : Bool → List ℕ
         ended_within o (left - used) limit new e (λ ended more. (t ended more).1) ended more,
       )
 
-  pub limited : (told : Option AnswerHead) (step : Step) → Tells step used (take left piece) told old new → Tells step used piece told (within left limit old) (within (left - used) limit new)
-  limited told steps.More t = λ ended more.
+  pub limited : (told : Option AnswerHead) (location : Option (List ℕ)) (step : Step) → Tells step used (take left piece) told location old new → Tells step used piece told location (within left limit old) (within (left - used) limit new)
+  limited told location steps.More t = λ ended more.
       let l = looks left limit used piece more ended fits_piece.0 fits_piece.1 in
       l.before old ∙ ap (capped l.all limit) (t l.mark l.rest) ∙ sym (l.after new)
-  limited told steps.Head t = record {
+  limited told location steps.Head t = record {
     head = t.head;
-    frame = t.frame;
     taken = t.taken;
     told_is = t.told_is;
+    located = t.located;
     reads = λ ended more.
         let l = looks left limit used piece more ended fits_piece.0 fits_piece.1 in
         l.before old ∙ ap (capped l.all limit) (t.reads l.mark l.rest) ∙ capped_head t.head _ limit l.all ∙ ap (after_head t.head) (sym (l.after new));
   }
-  limited told (steps.Body start stop) t = record {
+  limited told location (steps.Body start stop) t = record {
     some = t.some;
     inside = t.inside;
     reads = λ ended more.
@@ -131,6 +131,6 @@ module _ (left limit used : ℕ) (piece : List ℕ) (old new : Bool → List ℕ
         ∙ ap (after_body (slice_range (take left piece) start stop)) (sym (l.after new))
         ∙ ap (λ b. after_body b (within (left - used) limit new ended (drop used piece ++ more))) (slice_take left piece start stop t.some (let k = t.inside in omega (arith, h)));
   }
-  limited told steps.Whole t = ended_tells Whole (record { kept = λ _. refl }) t
-  limited told steps.Early t = ended_tells Early (record { kept = λ _. refl }) t
-  limited told (steps.Bad at) t = ended_tells (Bad at) (record { kept = λ _. refl }) t
+  limited told location steps.Whole t = ended_tells Whole (record { kept = λ _. refl }) t
+  limited told location steps.Early t = ended_tells Early (record { kept = λ _. refl }) t
+  limited told location (steps.Bad at) t = ended_tells (Bad at) (record { kept = λ _. refl }) t

@@ -1,2 +1,4 @@
-pub mod Framings
+pub mod Blocks
 pub mod Reader
+pub mod Sizes
+pub mod Stages

@@ -1,19 +1,21 @@
-//! The reading of an origin's answer, fed in pieces of any cutting (RFC 9112, section 6).
+//! The reading of an origin's answer, fed in pieces of any cutting (RFC 9112).
 //!
-//! An `AnswerReader` takes the bytes of one connection as they come and says, step by step, what they bring: the head,
-//! ranges of the body, and how the answer ended. What all steps bring together is `reading` of the whole text, a
-//! function of `acng_base`; each call says what it took from that reading and what it left.
-//!
-//! Taken so far are answers of status 200 with exactly one `Content-Length` and no `Transfer-Encoding`. Every other
-//! whole head is bad at its first byte, and so are 16,384 bytes without the end of a head.
+//! An `AnswerReader` takes the bytes of one connection as they come and says, step by step, what they bring: the final
+//! head, ranges of the body, and how the answer ended. What all steps bring together is `reading` of the whole text, a
+//! function of `acng_base`, without its heads of status 100 to 199; each call says what it took from that reading and
+//! what it left. Beside it the reader counts the bytes of the body that are still due, whatever comes.
 #![tactic(auto)]
 
+mod body;
+mod chunked;
+mod field;
 mod framing;
+mod head;
+mod location;
+mod range;
 mod reader;
 mod stage;
 mod step;
-#[cfg(test)]
-mod tests;
 
 pub use reader::AnswerReader;
 pub use step::{AnswerHead, Step};

@@ -1,23 +1,31 @@
 //! The stages of an answer, and what each makes of the next bytes.
 //!
 //! ```text
-//! Heads --Head--> CountedBody --Body--> CountedBody --Body--> Ended(Whole)
+//! Heads --Head--> CountedBody --Body--> Ended(Whole)
+//!   |  \--Head--> OpenBody --Body--> OpenBody
+//!   |  \--Head--> SizeLine --> Chunk --Body--> Chunk --> ChunkLf --> SizeLine
+//!   |                 \------> Trailer --> Ended(Whole)
+//!   \--More--> Heads (after a head of status 100 to 199)
 //! ```
 //!
-//! A head of a body of no bytes goes to `Ended(Whole)` at once. The connection's end, a head that isn't taken and the
-//! limit go from every stage to `Ended`. Bytes of a head are looked at once and copied once, in bulk; bytes of a body
-//! are ranges of the piece.
-ghost use Rattle.std.specs.Prelude.{◌≡◌, ℕ, ◌+◌, ◌-◌, ◌^◌, ◌<◌, ◌≤◌, Bool, List, ◌++◌, Option, Some, None, IsSome, length, take, true, vec_capacity};
-ghost use Rattle.acng_base.specs.Answers.{counted_body};
-ghost use Rattle.acng_answer.specs.Reader.{Fits, FitsHead, Tells, Progresses, KeepsHead, staged, outcome_of, step_of, at_end};
+//! A head of a body of no bytes goes to `Ended(Whole)` at once. The connection's end, a byte or block that no answer has
+//! and the limit go from every stage to `Ended`. Bytes of a head are looked at once, and copied only where it is cut.
+ghost use Rattle.std.specs.Prelude.{◌≡◌, ℕ, ◌+◌, ◌-◌, ◌^◌, ◌<◌, ◌≤◌, Bool, List, [], ◌++◌, Option, Some, None, IfSome, length, take, true, vec_capacity};
+ghost use Rattle.acng_base.specs.Heads.{Head, head_of};
+ghost use Rattle.acng_base.specs.Answers.{body as body_read};
+ghost use Rattle.acng_base.specs.Framings.{Framing, framing, part_len, due_of};
+ghost use Rattle.acng_answer.specs.Blocks.{IsBounded, IsFramedAs, IsJudged};
+ghost use Rattle.acng_answer.specs.Stages.{EndsDone, Fits, FitsHead, at_end, due_at, outcome_of, staged};
 ghost use Rattle.acng_answer.specs.declared.step.AnswerHead.{AnswerHead};
+ghost use Rattle.acng_answer.specs.Reader.{Counts, KeepsHead, KeepsLocation, Progresses, Tells, step_of};
 
-use crate::framing::{Framed, frame};
+use crate::body::{counted_step, open_step};
+use crate::chunked::{chunk_step, lf_step, size_step, trailer_step};
+use crate::framing::Framed;
+use crate::head::{Judged, judge};
+use crate::location::{Location, ROOM};
 use crate::step::{AnswerHead, Step};
-use acng_base::{Found, Mark, scan};
-
-/// The most bytes of a head.
-pub const ROOM: usize = 16_384;
+use acng_base::{LineState, Scan, first_bytes, scan_block};
 
 /// How an answer ended.
 #[derive(Clone, Copy, Debug, Drop)]
@@ -27,14 +35,48 @@ pub enum End {
     Bad { at: u64 },
 }
 
-/// What comes next.
+/// What comes next. A part is how many bytes of a 206's range are left; `start` is the place of a block's first byte.
 #[derive(Clone, Copy, Debug, Drop)]
 pub enum Stage {
-    /// The bytes of a head, whose first byte has the place `start`.
-    Heads { mark: Mark, start: u64 },
+    /// The bytes of a head.
+    Heads {
+        state: LineState,
+        start: u64,
+    },
     /// So many bytes of the body, at least one.
-    CountedBody { left: u64 },
-    Ended(End),
+    CountedBody {
+        left: u64,
+    },
+    /// The body to the connection's end.
+    OpenBody {
+        part: Option<u64>,
+    },
+    /// The size line of a chunk.
+    SizeLine {
+        part: Option<u64>,
+        start: u64,
+    },
+    /// So many bytes of a chunk, and CR LF.
+    Chunk {
+        part: Option<u64>,
+        left: u64,
+    },
+    /// The LF after a chunk; its CR has the place `start`.
+    ChunkLf {
+        part: Option<u64>,
+        start: u64,
+    },
+    /// The lines after the last chunk.
+    Trailer {
+        part: Option<u64>,
+        state: LineState,
+        start: u64,
+    },
+    /// Nothing; so many bytes of the body were still due.
+    Ended {
+        end: End,
+        due: Option<u64>,
+    },
 }
 
 impl End {
@@ -51,22 +93,34 @@ impl End {
 
 /// What the connection's end means in a stage.
 pub fn end_of(stage: Stage) -> End
-    ensures { outcome_of result ≡ at_end stage true }
+    ensures outcome { outcome_of result ≡ at_end stage true }
+    ensures done { (held : List ℕ) (at : ℕ) → Fits stage held at → EndsDone result (due_at stage) }
 {
     match stage {
-        Stage::Ended(end) => end,
+        Stage::Ended { end, due: _ } => end,
+        Stage::OpenBody { part: None } => End::Whole,
+        Stage::OpenBody { part: Some(0) } => End::Whole,
         _ => End::Early,
     }
 }
 
-/// The first bytes of a piece, at most so many.
-pub fn front(piece: &[u8], room: usize) -> &[u8]
-    ensures { result.now ≡ take room piece.now }
+/// The bytes of the body that are still due.
+pub fn due_in(stage: Stage) -> Option<u64>
+    ensures { result ≡ due_at stage }
 {
-    if room < piece.len() {
-        &piece[..room]
-    } else {
-        piece
+    match stage {
+        Stage::Heads { state: _, start: _ } => None,
+        Stage::CountedBody { left } => Some(left),
+        Stage::OpenBody { part } => part,
+        Stage::SizeLine { part, start: _ } => part,
+        Stage::Chunk { part, left: _ } => part,
+        Stage::ChunkLf { part, start: _ } => part,
+        Stage::Trailer {
+            part,
+            state: _,
+            start: _,
+        } => part,
+        Stage::Ended { end: _, due } => due,
     }
 }
 
@@ -75,55 +129,38 @@ pub fn stage_step(
     stage: Stage,
     held: &mut Vec<u8>,
     head: &mut Option<AnswerHead>,
+    location: &mut Location,
     at: u64,
     piece: &[u8],
 ) -> (usize, Step, Stage)
     requires room { 16384 ≤ vec_capacity held.old }
     requires fits { Fits stage held.old.items at }
-    requires told { FitsHead stage head.old }
+    requires told { FitsHead stage head.old location.old }
+    requires bounds { IfSome head.old IsBounded }
     requires piece { 0 < length piece.now }
     requires place { at + length piece.now < 2 ^ 63 }
     ensures used { result.0 ≤ length piece.now }
     ensures progress { Progresses result.0 result.1 }
-    ensures tells { Tells result.1 result.0 piece.now head.new (staged stage held.old.items) (staged result.2 held.new.items) }
+    ensures tells { Tells result.1 result.0 piece.now head.new location.new
+        (staged stage held.old.items at) (staged result.2 held.new.items (at + result.0)) }
 
+    ensures due { Counts result.1 head.new (due_at stage) (due_at result.2) }
     ensures head { KeepsHead result.1 head.old head.new }
+    ensures location { KeepsLocation result.1 location.old location.new }
+    ensures bounds { IfSome head.new IsBounded }
     ensures room { vec_capacity held.old ≤ vec_capacity held.new }
     ensures fits { Fits result.2 held.new.items (at + result.0) }
-    ensures told { FitsHead result.2 head.new }
+    ensures told { FitsHead result.2 head.new location.new }
 {
     match stage {
-        Stage::Heads { mark, start } => head_step(held, head, mark, start, piece),
-        Stage::CountedBody { left } => {
-            let (used, stage) = counted_step(left, piece);
-            (
-                used,
-                Step::Body {
-                    start: 0,
-                    stop: used,
-                },
-                stage,
-            )
-        }
-        Stage::Ended(end) => (0, end.step(), stage),
-    }
-}
-
-// The next bytes of a counted body.
-fn counted_step(left: u64, piece: &[u8]) -> (usize, Stage)
-    requires some { 0 < left }
-    requires piece { 0 < length piece.now }
-    ensures used { (0 < result.0) × (result.0 ≤ length piece.now) }
-    ensures tells { (held : List ℕ) (told : Option AnswerHead) → Tells (Step.Body 0 result.0) result.0 piece.now told (staged (Stage.CountedBody left) held) (staged result.1 held) }
-
-    ensures fits { (held : List ℕ) (at : ℕ) → Fits result.1 held at }
-    ensures told { (head : Option AnswerHead) → IsSome head → FitsHead result.1 head }
-{
-    if (piece.len() as u64) < left {
-        let left = left - piece.len() as u64;
-        (piece.len(), Stage::CountedBody { left })
-    } else {
-        (left as usize, Stage::Ended(End::Whole))
+        Stage::Heads { state, start } => head_step(held, head, location, state, start, piece),
+        Stage::CountedBody { left } => counted_step(left, piece),
+        Stage::OpenBody { part } => open_step(part, at, piece),
+        Stage::SizeLine { part, start } => size_step(held, part, start, piece),
+        Stage::Chunk { part, left } => chunk_step(part, left, at, piece),
+        Stage::ChunkLf { part, start } => lf_step(part, start, piece),
+        Stage::Trailer { part, state, start } => trailer_step(part, state, start, at, piece),
+        Stage::Ended { end, due: _ } => (0, end.step(), stage),
     }
 }
 
@@ -131,41 +168,49 @@ fn counted_step(left: u64, piece: &[u8]) -> (usize, Stage)
 fn head_step(
     held: &mut Vec<u8>,
     head: &mut Option<AnswerHead>,
-    mark: Mark,
+    location: &mut Location,
+    state: LineState,
     start: u64,
     piece: &[u8],
 ) -> (usize, Step, Stage)
     requires room { 16384 ≤ vec_capacity held.old }
-    requires fits { Fits (Stage.Heads mark start) held.old.items (start + length held.old.items) }
-    requires told { head.old ≡ None }
+    requires fits { Fits (Stage.Heads state start) held.old.items (start + length held.old.items) }
+    requires told { (head.old ≡ None) × (location.old ≡ None) }
     requires piece { 0 < length piece.now }
+    requires place { start + length held.old.items + length piece.now < 2 ^ 63 }
     ensures used { result.0 ≤ length piece.now }
     ensures progress { Progresses result.0 result.1 }
-    ensures tells { Tells result.1 result.0 piece.now head.new (staged (Stage.Heads mark start) held.old.items) (staged result.2 held.new.items) }
+    ensures tells { let at = start + length held.old.items in Tells result.1 result.0 piece.now head.new location.new
+        (staged (Stage.Heads state start) held.old.items at) (staged result.2 held.new.items (at + result.0)) }
 
+    ensures due { Counts result.1 head.new None (due_at result.2) }
     ensures head { KeepsHead result.1 head.old head.new }
+    ensures location { KeepsLocation result.1 location.old location.new }
+    ensures bounds { IfSome head.new IsBounded }
     ensures room { vec_capacity held.old ≤ vec_capacity held.new }
     ensures fits { Fits result.2 held.new.items (start + length held.old.items + result.0) }
-    ensures told { FitsHead result.2 head.new }
+    ensures told { FitsHead result.2 head.new location.new }
 {
-    let part = front(piece, ROOM - held.len());
-    match scan(mark, part) {
-        Found::Ends(count) => {
-            hold(held, &part[..count]);
-            let framed = frame(held);
-            held.clear();
-            match framed {
-                Some(framed) => {
-                    *head = Some(told(framed));
-                    (count, Step::Head, first_stage(framed.length))
+    let part = first_bytes(piece, ROOM - held.len());
+    match scan_block(state, part) {
+        Scan::End(count) => {
+            let next = start + (held.len() + count) as u64;
+            match judge_joined(held, location, &part[..count]) {
+                Judged::Refused => bad(count, start),
+                Judged::Interim => {
+                    let state = LineState::Before;
+                    (count, Step::More, Stage::Heads { state, start: next })
                 }
-                None => bad(count, start),
+                Judged::Final(framed, told) => {
+                    *head = Some(told);
+                    (count, Step::Head, first_stage(framed, next))
+                }
             }
         }
-        Found::GoesOn(mark) => {
+        Scan::Incomplete(state) => {
             hold(held, part);
             if held.len() < ROOM {
-                (part.len(), Step::More, Stage::Heads { mark, start })
+                (part.len(), Step::More, Stage::Heads { state, start })
             } else {
                 bad(part.len(), start)
             }
@@ -173,42 +218,61 @@ fn head_step(
     }
 }
 
-// The end at a block that isn't a head that is taken.
-fn bad(used: usize, at: u64) -> (usize, Step, Stage)
-    ensures { result ≡ (used, Step.Bad at, Stage.Ended (End.Bad at)) }
+// What is made of the block of which these are the last bytes; nothing of it is held any more.
+fn judge_joined(held: &mut Vec<u8>, location: &mut Location, last: &[u8]) -> Judged
+    requires room { length held.old.items + length last.now ≤ 16384 }
+    requires capacity { 16384 ≤ vec_capacity held.old }
+    requires location { location.old ≡ None }
+    ensures judged { IsJudged location.new result (head_of (held.old.items ++ last.now)) }
+
+    ensures clear { held.new.items ≡ [] }
+    ensures room { vec_capacity held.old ≤ vec_capacity held.new }
 {
-    let end = End::Bad { at };
-    (used, end.step(), Stage::Ended(end))
+    if held.is_empty() {
+        return judge(last, location);
+    }
+    hold(held, last);
+    let judged = judge(held, location);
+    held.clear();
+    judged
 }
 
-// Adds bytes for which there is room.
-fn hold(held: &mut Vec<u8>, part: &[u8])
+// What comes after a final head; its body begins at this place.
+fn first_stage(framed: Framed, at: u64) -> Stage
+    ensures reads { (h : Head) (f : Framing) → IsFramedAs h framed → framing h ≡ Some f → (ended : Bool) (text : List ℕ)
+        → body_read f (part_len h) at ended text ≡ staged result [] at ended text }
+    ensures due { (h : Head) → IsFramedAs h framed → due_at result ≡ due_of h }
+    ensures fits { Fits result [] at }
+    ensures told { (head : AnswerHead) (location : Option (List ℕ)) → FitsHead result (Some head) location }
+{
+    match framed {
+        Framed::Empty => Stage::Ended {
+            end: End::Whole,
+            due: None,
+        },
+        Framed::Counted(0) => Stage::Ended {
+            end: End::Whole,
+            due: Some(0),
+        },
+        Framed::Counted(left) => Stage::CountedBody { left },
+        Framed::ToEnd(part) => Stage::OpenBody { part },
+        Framed::Chunks(part) => Stage::SizeLine { part, start: at },
+    }
+}
+
+/// The end at a byte, or at a block that begins at the place, that no answer has.
+pub fn bad(used: usize, at: u64) -> (usize, Step, Stage)
+    ensures { result ≡ (used, Step.Bad at, Stage.Ended (End.Bad at) None) }
+{
+    let end = End::Bad { at };
+    (used, end.step(), Stage::Ended { end, due: None })
+}
+
+/// Adds bytes for which there is room.
+pub fn hold(held: &mut Vec<u8>, part: &[u8])
     requires { length held.old.items + length part.now ≤ vec_capacity held.old }
     ensures items { held.new.items ≡ held.old.items ++ part.now }
     ensures room { vec_capacity held.old ≤ vec_capacity held.new }
 {
     held.extend_from_slice(part).unwrap();
-}
-
-// What is told of a head.
-fn told(framed: Framed) -> AnswerHead
-    ensures { result ≡ record { status = framed.status; length = Some framed.length } }
-{
-    AnswerHead {
-        status: framed.status,
-        length: Some(framed.length),
-    }
-}
-
-// What comes after a head.
-fn first_stage(length: u64) -> Stage
-    ensures reads { (held : List ℕ) (ended : Bool) (text : List ℕ) → staged result held ended text ≡ counted_body length ended text }
-    ensures fits { (held : List ℕ) (at : ℕ) → Fits result held at }
-    ensures told { (head : Option AnswerHead) → IsSome head → FitsHead result head }
-{
-    if length == 0 {
-        Stage::Ended(End::Whole)
-    } else {
-        Stage::CountedBody { left: length }
-    }
 }

@@ -1,7 +1,7 @@
 use Rattle.std.proofs.Common.{◌≡◌, ◌-◌, [], false, subst}
 use Rattle.acng_base.specs.Answers.{Open, nothing}
 use Rattle.acng_answer.specs.Reader.{rest}
-use Rattle.acng_answer.proofs.StageLemmas.{rest_open}
+use Rattle.acng_answer.proofs.EndLemmas.{rest_open}
 use Rattle.acng_answer.proofs.reader.AnswerReader.over.Goals as goal
 
 pub returns-in_default : goal.returns-in_default
