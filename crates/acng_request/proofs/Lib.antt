@@ -1,8 +1,8 @@
-pub mod Cuts
-pub mod Ends
-pub mod Fits
-pub mod Judging
-pub mod Moving
-pub mod Reading
-pub mod ReplyLemmas
-pub mod Targets
+mod FieldLemmas
+mod HeadLemmas
+mod LineLemmas
+mod MethodLemmas
+mod NextLemmas
+mod ReadLemmas
+mod ReplyLemmas
+mod Rows

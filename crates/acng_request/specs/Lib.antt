@@ -1,4 +1,7 @@
-pub mod FirstForm
+pub mod Blocks
 pub mod Gots
-pub mod Judged
+pub mod Nexts
 pub mod ReplyHeads
+pub mod RequestFields
+pub mod RequestHeads
+pub mod Spans

@@ -1,9 +1,11 @@
 -- The head of a reply (RFC 9112, sections 2.1 and 4), as one text of its lines.
-use Rattle.std.specs.Prelude.{◌≡◌, ℕ, ◌<◌, Bool, not, ◌||◌, ◌==◌, List, [], ◌∷◌, ◌++◌, Option, Some, None, option_map, unwrap_or, cond, codes, decimal}
+use Rattle.std.specs.Prelude.{◌≡◌, ℕ, ◌<◌, Bool, false, not, ◌||◌, ◌==◌, List, [], ◌∷◌, ◌++◌, Option, Some, None, option_map, unwrap_or, cond, codes, decimal}
 use Rattle.std.specs.List.{list_any}
 use Rattle.http.specs.StatusCode.{reason_phrase}
 use Rattle.httpdate.specs.Date.{unix_secs, date_text}
 use Rattle.httpdate.specs.declared.date.HttpDate.{HttpDate as Date}
+use Rattle.acng_base.specs.Cuts.{carriage_return, line_feed}
+use Rattle.acng_base.specs.Moments.{moment_limit}
 use Rattle.acng_base.specs.declared.clock.Moment.{Moment}
 use Rattle.acng_request.specs.declared.reply.Framing.{Framing}
 use Rattle.acng_request.specs.declared.reply.Framing.TheVariants.{Length, Chunked, ToEnd}
@@ -18,14 +20,15 @@ reply_statuses = 200 ∷ 206 ∷ 304 ∷ 400 ∷ 403 ∷ 404 ∷ 405 ∷ 416 ∷
 abbrev pub is_reply_status : ℕ → Bool
 is_reply_status status = list_any (λ s. s == status) reply_statuses
 
--- the statuses that speak of a file at hand
-abbrev pub has_file : ℕ → Bool
-has_file status = status == 200 || status == 206 || status == 304
+-- the reply speaks of a file at hand
+abbrev pub has_file : ℕ → Kind → Bool
+has_file status File = status == 200 || status == 206 || status == 304
+has_file status _ = false
 
 -- a date before the year 10000 (RFC 9110, section 5.6.7)
 abbrev pub IsWritable : Option Moment → Type 0
 IsWritable None = Unit {0}
-IsWritable (Some moment) = moment.0 < 253402300800
+IsWritable (Some moment) = moment.0 < moment_limit
 
 -- the text is the moment's date; where there is no moment, any text serves
 abbrev pub IsDateOf : Option Moment → List ℕ → Type 0
@@ -74,12 +77,12 @@ abbrev pub no_part_line : ℕ → Option ℕ → Option (List ℕ)
 no_part_line status total = only (status == 416) (option_map no_part_text total)
 
 -- RFC 9110, section 8.8.2
-abbrev pub modified_line : ℕ → Option Moment → List ℕ → Option (List ℕ)
-modified_line status modified date = only (has_file status) (option_map (λ _. codes "Last-Modified: " ++ date) modified)
+abbrev pub modified_line : Bool → Option Moment → List ℕ → Option (List ℕ)
+modified_line of_file modified date = only of_file (option_map (λ _. codes "Last-Modified: " ++ date) modified)
 
 -- RFC 9110, section 8.8.3
-abbrev pub tag_line : ℕ → Option (List ℕ) → Option (List ℕ)
-tag_line status tag = only (has_file status) (option_map (λ t. codes "ETag: " ++ t) tag)
+abbrev pub tag_line : Bool → Option (List ℕ) → Option (List ℕ)
+tag_line of_file tag = only of_file (option_map (λ t. codes "ETag: " ++ t) tag)
 
 -- RFC 9110, section 10.2.1
 abbrev pub allow_line : ℕ → Option (List ℕ)
@@ -93,7 +96,7 @@ connection_line close = Some (codes "Connection: " ++ cond close (codes "close")
 
 -- CR and LF
 abbrev pub line_end : List ℕ
-line_end = 13 ∷ 10 ∷ []
+line_end = carriage_return ∷ line_feed ∷ []
 
 -- a line with its end, or nothing
 abbrev pub ended : Option (List ℕ) → List ℕ
@@ -114,8 +117,8 @@ head_text head date =
     ∷ framing_line head.status head.framing
     ∷ part_line head.status head.part
     ∷ no_part_line head.status head.total
-    ∷ modified_line head.status head.modified date
-    ∷ tag_line head.status head.tag
+    ∷ modified_line (has_file head.status head.kind) head.modified date
+    ∷ tag_line (has_file head.status head.kind) head.tag
     ∷ allow_line head.status
     ∷ connection_line head.close
     ∷ [])

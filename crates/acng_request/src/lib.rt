@@ -5,19 +5,13 @@
 //! into a buffer of fixed length. Which reply a request gets is decided above.
 #![tactic(auto)]
 
-mod against;
-pub mod buffer;
-mod first_form;
-pub mod got;
-pub mod read;
-pub mod reply;
-#[cfg(test)]
-mod reply_tests;
-mod target;
-#[cfg(test)]
-mod tests;
+mod field;
+mod got;
+mod head;
+mod line;
+mod read;
+mod reply;
 
-pub use buffer::HeadBuf;
 pub use got::{Got, HeadFault, Part, Request};
-pub use read::read_request;
+pub use read::{HeadBuf, read_request};
 pub use reply::{Framing, Kind, ReplyHead, reply_head};

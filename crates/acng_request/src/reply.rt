@@ -45,9 +45,9 @@ pub struct ReplyHead {
     pub part: Option<(u64, u64, u64)>,
     /// The length of the whole of which no part was asked. It is told on 416 alone.
     pub total: Option<u64>,
-    /// When the file was last changed. It is told on 200, 206 and 304 alone, whatever the kind: a page has none.
+    /// When the file was last changed. It is told of files alone, on 200, 206 and 304.
     pub modified: Option<Moment>,
-    /// The entity tag of the file. It is told on 200, 206 and 304 alone, whatever the kind: a page has none.
+    /// The entity tag of the file. It is told of files alone, on 200, 206 and 304.
     pub tag: Option<Tag>,
     /// Whether the connection closes after the reply.
     pub close: bool,
@@ -69,8 +69,9 @@ pub fn reply_head(head: &ReplyHead, out: &mut [u8; 1024]) -> usize
     let at = put_framing(out, at, status, head.framing);
     let at = put_part(out, at, status, head.part);
     let at = put_no_part(out, at, status, head.total);
-    let at = put_modified(out, at, status, head.modified, &date);
-    let at = put_tag(out, at, status, &head.tag);
+    let of_file = speaks_of_file(status, head.kind);
+    let at = put_modified(out, at, of_file, head.modified, &date);
+    let at = put_tag(out, at, of_file, &head.tag);
     let at = put_allow(out, at, status);
     let at = put_connection(out, at, head.close);
     put(out, at, b"\r\n")
@@ -176,15 +177,15 @@ fn put_no_part(out: &mut [u8; 1024], at: usize, status: u16, total: Option<u64>)
 fn put_modified(
     out: &mut [u8; 1024],
     at: usize,
-    status: u16,
+    of_file: bool,
     modified: Option<Moment>,
     date: &[u8; 29],
 ) -> usize
     requires { at ≤ 700 }
-    ensures text { take result out.new ≡ take at out.old ++ ended (modified_line status modified date.now) }
+    ensures text { take result out.new ≡ take at out.old ++ ended (modified_line of_file modified date.now) }
     ensures short { result ≤ at + 46 }
 {
-    if !speaks_of_file(status) {
+    if !of_file {
         return at;
     }
     match modified {
@@ -193,12 +194,12 @@ fn put_modified(
     }
 }
 
-fn put_tag(out: &mut [u8; 1024], at: usize, status: u16, tag: &Option<Tag>) -> usize
+fn put_tag(out: &mut [u8; 1024], at: usize, of_file: bool, tag: &Option<Tag>) -> usize
     requires { at ≤ 700 }
-    ensures text { take result out.new ≡ take at out.old ++ ended (tag_line status tag.now) }
+    ensures text { take result out.new ≡ take at out.old ++ ended (tag_line of_file tag.now) }
     ensures short { result ≤ at + 264 }
 {
-    if !speaks_of_file(status) {
+    if !of_file {
         return at;
     }
     match tag {
@@ -258,10 +259,14 @@ fn kind_name(kind: Kind) -> &'static [u8]
     }
 }
 
-fn speaks_of_file(status: u16) -> bool
-    ensures { result ≡ has_file status }
+// Whether the reply speaks of a file at hand.
+fn speaks_of_file(status: u16, kind: Kind) -> bool
+    ensures { result ≡ has_file status kind }
 {
-    status == 200 || status == 206 || status == 304
+    match kind {
+        Kind::File => status == 200 || status == 206 || status == 304,
+        Kind::Plain | Kind::Html => false,
+    }
 }
 
 // ---- pieces of the lines

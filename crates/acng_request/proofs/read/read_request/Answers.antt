@@ -1,51 +1,53 @@
-use Rattle.std.proofs.Common.{subst, codes}
-use Rattle.acng_request.specs.Judged.{Judges, EndsUndecided}
-use Rattle.acng_request.specs.declared.first_form.Form.{Form}
-use Rattle.acng_request.proofs.Reading.{begins, refuses, head_no_front, head_no_never, front_no_head, never_no_head, never_no_front}
+-- What the bytes held say, all that are to come say.
+use Rattle.std.proofs.Common.{subst}
+use Rattle.acng_request.specs.Blocks.{IsBlockOf}
+use Rattle.acng_request.specs.declared.got.HeadFault.TheVariants.{TooLarge}
+use Rattle.acng_request.specs.declared.read.Block.{Block}
+use Rattle.acng_request.proofs.ReadLemmas.{always, refuses, untouched, taken_request, taken_refused, taken_ended, taken_no_memory, taken_form}
 use Rattle.acng_request.proofs.read.read_request.Goals as goal
 
-pub returns-in-Ok-clause-breaks_off : goal.returns-in-Ok-clause-breaks_off
-returns-in-Ok-clause-breaks_off g c =
-    let P : Form → Type 0 = Judges (codes "GET http://") c.read_form.new.buf in
-    head_no_front c.args.buf.now c.read_form.new.buf (g.L.Link.left c.args.link.now) (g.L.Link.left c.read_form.new.link) c.read_form.ensures.moved c.in-Ok-Head.target (subst P c.in-Ok-Head.field-0-is c.in-Ok-Head.ensures.judged)
+pub returns-in-Ok-Whole-clause-request : goal.returns-in-Ok-Whole-clause-request
+returns-in-Ok-Whole-clause-request g c =
+    taken_request (g.L.Link.left c.args.link.now) (g.L.Link.left c.read_block.new.link) c.args.buf.now c.read_block.new.buf c.read_block.ensures.moved c.in-Ok-Whole.len c.take_request.new.buf c.take_request.result c.take_request.ensures
 
-pub returns-in-Ok-clause-bad : goal.returns-in-Ok-clause-bad
-returns-in-Ok-clause-bad g c =
-    let P : Form → Type 0 = Judges (codes "GET http://") c.read_form.new.buf in
-    head_no_never c.args.buf.now c.read_form.new.buf (g.L.Link.left c.args.link.now) (g.L.Link.left c.read_form.new.link) c.read_form.ensures.moved c.in-Ok-Head.target (subst P c.in-Ok-Head.field-0-is c.in-Ok-Head.ensures.judged)
+pub returns-in-Ok-Whole-clause-refused : goal.returns-in-Ok-Whole-clause-refused
+returns-in-Ok-Whole-clause-refused g c =
+    taken_refused (g.L.Link.left c.args.link.now) (g.L.Link.left c.read_block.new.link) c.args.buf.now c.read_block.new.buf c.read_block.ensures.moved c.in-Ok-Whole.len c.take_request.new.buf c.take_request.result c.take_request.ensures
 
-pub returns-in-Err-take_request-clause-no_memory : goal.returns-in-Err-take_request-clause-no_memory
-returns-in-Err-take_request-clause-no_memory g c =
-    let P : Form → Type 0 = Judges (codes "GET http://") c.read_form.new.buf in
-    begins c.args.buf.now c.read_form.new.buf (g.L.Link.left c.args.link.now) (g.L.Link.left c.read_form.new.link) c.in-Ok-Head.target c.read_form.ensures.moved (subst P c.in-Ok-Head.field-0-is c.in-Ok-Head.ensures.judged)
+pub returns-in-Ok-Whole-clause-ended : goal.returns-in-Ok-Whole-clause-ended
+returns-in-Ok-Whole-clause-ended g c =
+    taken_ended (g.L.Link.left c.args.link.now) (g.L.Link.left c.read_block.new.link) c.args.buf.now c.read_block.new.buf c.read_block.ensures.moved c.in-Ok-Whole.len c.take_request.new.buf c.take_request.result c.take_request.ensures
 
-pub returns-in-Err-take_request-clause-breaks_off : goal.returns-in-Err-take_request-clause-breaks_off
-returns-in-Err-take_request-clause-breaks_off g c =
-    let P : Form → Type 0 = Judges (codes "GET http://") c.read_form.new.buf in
-    head_no_front c.args.buf.now c.read_form.new.buf (g.L.Link.left c.args.link.now) (g.L.Link.left c.read_form.new.link) c.read_form.ensures.moved c.in-Ok-Head.target (subst P c.in-Ok-Head.field-0-is c.in-Ok-Head.ensures.judged)
+pub returns-in-Ok-Whole-clause-no_memory : goal.returns-in-Ok-Whole-clause-no_memory
+returns-in-Ok-Whole-clause-no_memory g c =
+    taken_no_memory (g.L.Link.left c.args.link.now) (g.L.Link.left c.read_block.new.link) c.args.buf.now c.read_block.new.buf c.read_block.ensures.moved c.in-Ok-Whole.len c.take_request.new.buf c.take_request.result c.take_request.ensures
 
-pub returns-in-Err-take_request-clause-bad : goal.returns-in-Err-take_request-clause-bad
-returns-in-Err-take_request-clause-bad g c =
-    let P : Form → Type 0 = Judges (codes "GET http://") c.read_form.new.buf in
-    head_no_never c.args.buf.now c.read_form.new.buf (g.L.Link.left c.args.link.now) (g.L.Link.left c.read_form.new.link) c.read_form.ensures.moved c.in-Ok-Head.target (subst P c.in-Ok-Head.field-0-is c.in-Ok-Head.ensures.judged)
+pub returns-in-Ok-Whole-clause-form : goal.returns-in-Ok-Whole-clause-form
+returns-in-Ok-Whole-clause-form g c = taken_form c.read_block.new.buf c.in-Ok-Whole.len c.take_request.new.buf c.take_request.result c.take_request.ensures
 
-pub returns-in-Ok-MayBecome-clause-whole : goal.returns-in-Ok-MayBecome-clause-whole
-returns-in-Ok-MayBecome-clause-whole g c =
-    let P : Form → Type 0 = Judges (codes "GET http://") c.read_form.new.buf in
-    let Q : Form → Type 0 = λ f. EndsUndecided f (g.L.Link.left c.read_form.new.link) in
-    front_no_head c.args.buf.now c.read_form.new.buf (g.L.Link.left c.args.link.now) (g.L.Link.left c.read_form.new.link) c.read_form.ensures.moved (subst Q c.in-Ok-MayBecome.field-0-is c.in-Ok-MayBecome.ensures.ended) (subst P c.in-Ok-MayBecome.field-0-is c.in-Ok-MayBecome.ensures.judged)
+pub returns-in-Ok-Whole-clause-still : goal.returns-in-Ok-Whole-clause-still
+returns-in-Ok-Whole-clause-still g c = untouched g.L.Link c.args.link.now c.read_block.new.link c.args.buf.now c.read_block.ensures.reads
 
-pub returns-in-Ok-Never-clause-whole : goal.returns-in-Ok-Never-clause-whole
-returns-in-Ok-Never-clause-whole g c =
-    let P : Form → Type 0 = Judges (codes "GET http://") c.read_form.new.buf in
-    never_no_head c.args.buf.now c.read_form.new.buf (g.L.Link.left c.args.link.now) (g.L.Link.left c.read_form.new.link) c.read_form.ensures.moved (subst P c.in-Ok-Never.field-0-is c.in-Ok-Never.ensures.judged)
+pub returns-in-Ok-TooLong-clause-refused : goal.returns-in-Ok-TooLong-clause-refused
+returns-in-Ok-TooLong-clause-refused g c =
+    let P : Block → Type 0 = IsBlockOf c.read_block.new.buf in
+    refuses (g.L.Link.left c.args.link.now) (g.L.Link.left c.read_block.new.link) c.args.buf.now c.read_block.new.buf c.read_block.ensures.moved TooLarge
+    (subst P c.in-Ok-TooLong.field-0-is c.in-Ok-TooLong.ensures.block)
 
-pub returns-in-Ok-Never-clause-breaks_off : goal.returns-in-Ok-Never-clause-breaks_off
-returns-in-Ok-Never-clause-breaks_off g c =
-    let P : Form → Type 0 = Judges (codes "GET http://") c.read_form.new.buf in
-    never_no_front c.args.buf.now c.read_form.new.buf (g.L.Link.left c.args.link.now) (g.L.Link.left c.read_form.new.link) c.read_form.ensures.moved (subst P c.in-Ok-Never.field-0-is c.in-Ok-Never.ensures.judged)
+pub returns-in-Ok-TooLong-clause-request : goal.returns-in-Ok-TooLong-clause-request
+returns-in-Ok-TooLong-clause-request g c = always (g.L.Link.left c.args.link.now)
 
-pub returns-in-Ok-Never-clause-refused : goal.returns-in-Ok-Never-clause-refused
-returns-in-Ok-Never-clause-refused g c =
-    let P : Form → Type 0 = Judges (codes "GET http://") c.read_form.new.buf in
-    refuses c.args.buf.now c.read_form.new.buf (g.L.Link.left c.args.link.now) (g.L.Link.left c.read_form.new.link) c.read_form.ensures.moved (subst P c.in-Ok-Never.field-0-is c.in-Ok-Never.ensures.judged)
+pub returns-in-Ok-TooLong-clause-ended : goal.returns-in-Ok-TooLong-clause-ended
+returns-in-Ok-TooLong-clause-ended g c = always (g.L.Link.left c.args.link.now)
+
+pub returns-in-Ok-TooLong-clause-no_memory : goal.returns-in-Ok-TooLong-clause-no_memory
+returns-in-Ok-TooLong-clause-no_memory g c = always (g.L.Link.left c.args.link.now)
+
+pub returns-in-Ok-TooLong-clause-still : goal.returns-in-Ok-TooLong-clause-still
+returns-in-Ok-TooLong-clause-still g c = untouched g.L.Link c.args.link.now c.read_block.new.link c.args.buf.now c.read_block.ensures.reads
+
+pub returns-in-Ok-Incomplete-clause-still : goal.returns-in-Ok-Incomplete-clause-still
+returns-in-Ok-Incomplete-clause-still g c = untouched g.L.Link c.args.link.now c.read_block.new.link c.args.buf.now c.read_block.ensures.reads
+
+pub returns-in-Err-clause-still : goal.returns-in-Err-clause-still
+returns-in-Err-clause-still g c = untouched g.L.Link c.args.link.now c.read_block.new.link c.args.buf.now c.read_block.ensures.reads

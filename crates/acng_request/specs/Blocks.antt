@@ -1,0 +1,37 @@
+-- What a reading of a block says of the bytes that are held.
+use Rattle.std.specs.Prelude.{◌≡◌, ℕ, ◌≤◌, List, length, Some, Result, MatchResult, ⊤}
+use Rattle.acng_base.specs.Lines.{head_block_len}
+use Rattle.acng_request.specs.Nexts.{next, Asks, Refuses, Ends}
+use Rattle.acng_request.specs.declared.got.Got.{Got}
+use Rattle.acng_request.specs.declared.got.Got.TheVariants as got
+use Rattle.acng_request.specs.declared.got.HeadFault.TheVariants.{TooLarge}
+use Rattle.acng_request.specs.declared.read.Block.{Block}
+use Rattle.acng_request.specs.declared.read.Block.TheVariants.{Whole, TooLong, Incomplete}
+use Rattle.acng_request.specs.Gots.{AskSome}
+
+-- a block of so many bytes stands at the front of what is held
+pub record IsBlock (bytes : List ℕ) (n : ℕ) : Type 0 where
+  pub is : head_block_len bytes ≡ Some n
+  pub within : n ≤ length bytes
+  pub few : length bytes ≤ 16384
+
+abbrev pub IsBlockOf : List ℕ → Block → Type 0
+IsBlockOf bytes (Whole n) = IsBlock bytes n
+IsBlockOf bytes TooLong = next bytes ≡ Refuses TooLarge
+IsBlockOf bytes Incomplete = next bytes ≡ Ends
+
+-- a fact where the link ended inside a block
+abbrev pub OnIncomplete : Block → Type 0 → Type 0
+OnIncomplete Incomplete P = P
+OnIncomplete _ P = ⊤
+
+-- what is held decides nothing where the link failed
+abbrev pub IsUndecidedUnlessOk : {T E : Type 0} → List ℕ → Result T E → Type 0
+IsUndecidedUnlessOk bytes result = MatchResult result (λ _. ⊤) (λ _. next bytes ≡ Ends)
+
+-- what the block at the front of what is held asks; only a request uses it up
+abbrev pub TakesBlock : List ℕ → ℕ → List ℕ → Got → Type 0
+TakesBlock old n new (got.Request r) = (next old ≡ Asks r new)
+TakesBlock old n new (got.Refused f) = (next old ≡ Refuses f) × (new ≡ old)
+TakesBlock old n new got.NoMemory = AskSome old × (new ≡ old)
+TakesBlock old n new _ = ⊥

@@ -1,0 +1,215 @@
+//! The heads of replies: each status with each framing, byte for byte, from texts that were written by hand after RFC 9110
+//! and RFC 9112.
+ghost use Rattle.std.specs.Prelude.{◌≡◌, None, true};
+ghost use Rattle.acng_request.specs.ReplyHeads.{is_reply_status, IsWritable};
+
+use acng_base::{Moment, Tag};
+use acng_request::{Framing, Kind, ReplyHead, reply_head};
+use std::alloc::Global;
+use std::process::Abort;
+use std::test::Fail;
+
+// The head of a file of three bytes, after which the connection stays.
+fn file(status: u16) -> ReplyHead
+    ensures status { result.status ≡ status }
+    ensures modified { result.modified ≡ None }
+{
+    ReplyHead {
+        status,
+        framing: Framing::Length(3),
+        kind: Kind::File,
+        part: None,
+        total: None,
+        modified: None,
+        tag: None,
+        close: false,
+    }
+}
+
+// The head of a line of text, after which the connection closes.
+fn line(status: u16, framing: Framing) -> ReplyHead
+    ensures status { result.status ≡ status }
+    ensures modified { result.modified ≡ None }
+{
+    ReplyHead {
+        framing,
+        kind: Kind::Plain,
+        close: true,
+        ..file(status)
+    }
+}
+
+fn is_known(status: u16) -> bool
+    ensures { result ≡ is_reply_status status }
+{
+    matches!(
+        status,
+        200 | 206 | 304 | 400 | 403 | 404 | 405 | 416 | 431 | 500 | 502 | 503 | 507
+    )
+}
+
+// The head is this text.
+fn writes(rt: &impl Abort, head: &ReplyHead, want: &[u8]) -> Result<(), Fail>
+    requires modified { IsWritable head.now.modified }
+{
+    let status = head.status;
+    assert!(rt; is_known(status), "{status}");
+    let mut out = [0; 1024];
+    let len = reply_head(head, &mut out);
+    assert_eq!(rt; &out[..len], want, "{status}");
+    Ok(())
+}
+
+// Three pieces in a row are the head's text.
+fn writes_three(rt: &impl Abort, alloc: Global, head: &ReplyHead, pieces: [&str; 3]) -> Result<(), Fail>
+    requires modified { IsWritable head.now.modified }
+{
+    let mut want = Vec::new(alloc);
+    for piece in pieces {
+        want.extend_from_slice(piece.as_bytes())?;
+    }
+    writes(rt, head, want.as_slice())
+}
+
+// The registered phrases of RFC 9110, section 15, RFC 6585, section 5, and RFC 4918, section 11.5.
+#[test]
+fn each_status_with_each_framing(rt: HostRuntime) -> Result<(), Fail> {
+    for (status, first, last) in [
+        (200, "HTTP/1.1 200 OK\r\nContent-Type: text/plain\r\n", "Connection: close\r\n\r\n"),
+        (206, "HTTP/1.1 206 Partial Content\r\nContent-Type: text/plain\r\n", "Connection: close\r\n\r\n"),
+        (400, "HTTP/1.1 400 Bad Request\r\nContent-Type: text/plain\r\n", "Connection: close\r\n\r\n"),
+        (403, "HTTP/1.1 403 Forbidden\r\nContent-Type: text/plain\r\n", "Connection: close\r\n\r\n"),
+        (404, "HTTP/1.1 404 Not Found\r\nContent-Type: text/plain\r\n", "Connection: close\r\n\r\n"),
+        (
+            405,
+            "HTTP/1.1 405 Method Not Allowed\r\nContent-Type: text/plain\r\n",
+            "Allow: GET, HEAD\r\nConnection: close\r\n\r\n",
+        ),
+        (416, "HTTP/1.1 416 Range Not Satisfiable\r\nContent-Type: text/plain\r\n", "Connection: close\r\n\r\n"),
+        (431, "HTTP/1.1 431 Request Header Fields Too Large\r\nContent-Type: text/plain\r\n", "Connection: close\r\n\r\n"),
+        (500, "HTTP/1.1 500 Internal Server Error\r\nContent-Type: text/plain\r\n", "Connection: close\r\n\r\n"),
+        (502, "HTTP/1.1 502 Bad Gateway\r\nContent-Type: text/plain\r\n", "Connection: close\r\n\r\n"),
+        (503, "HTTP/1.1 503 Service Unavailable\r\nContent-Type: text/plain\r\n", "Connection: close\r\n\r\n"),
+        (507, "HTTP/1.1 507 Insufficient Storage\r\nContent-Type: text/plain\r\n", "Connection: close\r\n\r\n"),
+    ] {
+        for (framing, told) in [
+            (Framing::Length(0), "Content-Length: 0\r\n"),
+            (Framing::Length(u64::MAX), "Content-Length: 18446744073709551615\r\n"),
+            (Framing::Chunked, "Transfer-Encoding: chunked\r\n"),
+            (Framing::ToEnd, ""),
+        ] {
+            writes_three(&rt, rt.alloc(), &line(status, framing), [first, told, last])?;
+        }
+    }
+    for framing in [Framing::Length(3), Framing::Chunked, Framing::ToEnd] {
+        let head = line(304, framing);
+        writes(&rt, &head, b"HTTP/1.1 304 Not Modified\r\nConnection: close\r\n\r\n".as_slice())?;
+    }
+    Ok(())
+}
+
+#[test]
+fn a_kind_is_told_and_a_connection_that_stays(rt: HostRuntime) -> Result<(), Fail> {
+    for (kind, want) in [
+        (
+            Kind::File,
+            b"HTTP/1.1 200 OK\r\nContent-Type: application/octet-stream\r\nContent-Length: 3\r\nConnection: keep-alive\r\n\r\n".as_slice(),
+        ),
+        (
+            Kind::Plain,
+            b"HTTP/1.1 200 OK\r\nContent-Type: text/plain\r\nContent-Length: 3\r\nConnection: keep-alive\r\n\r\n".as_slice(),
+        ),
+        (
+            Kind::Html,
+            b"HTTP/1.1 200 OK\r\nContent-Type: text/html\r\nContent-Length: 3\r\nConnection: keep-alive\r\n\r\n".as_slice(),
+        ),
+    ] {
+        let head = ReplyHead { kind, ..file(200) };
+        writes(&rt, &head, want)?;
+    }
+    Ok(())
+}
+
+#[test]
+fn a_part_is_told_on_206_and_its_want_on_416(rt: HostRuntime) -> Result<(), Fail> {
+    for (status, want) in [
+        (
+            200,
+            b"HTTP/1.1 200 OK\r\nContent-Type: application/octet-stream\r\nContent-Length: 3\r\nConnection: keep-alive\r\n\r\n".as_slice(),
+        ),
+        (
+            206,
+            b"HTTP/1.1 206 Partial Content\r\nContent-Type: application/octet-stream\r\nContent-Length: 3\r\nContent-Range: bytes 2-4/9\r\nConnection: keep-alive\r\n\r\n".as_slice(),
+        ),
+        (
+            416,
+            b"HTTP/1.1 416 Range Not Satisfiable\r\nContent-Type: application/octet-stream\r\nContent-Length: 3\r\nContent-Range: bytes */9\r\nConnection: keep-alive\r\n\r\n".as_slice(),
+        ),
+    ] {
+        let head = ReplyHead {
+            part: Some((2, 4, 9)),
+            total: Some(9),
+            ..file(status)
+        };
+        writes(&rt, &head, want)?;
+    }
+    Ok(())
+}
+
+// The date is the example of RFC 9110, section 5.6.7.
+#[test]
+fn date_and_tag_are_told_of_files_alone(rt: HostRuntime) -> Result<(), Fail> {
+    for (status, kind, want) in [
+        (
+            200,
+            Kind::File,
+            b"HTTP/1.1 200 OK\r\nContent-Type: application/octet-stream\r\nContent-Length: 3\r\nLast-Modified: Sun, 06 Nov 1994 08:49:37 GMT\r\nETag: \"abc\"\r\nConnection: keep-alive\r\n\r\n".as_slice(),
+        ),
+        (
+            206,
+            Kind::File,
+            b"HTTP/1.1 206 Partial Content\r\nContent-Type: application/octet-stream\r\nContent-Length: 3\r\nLast-Modified: Sun, 06 Nov 1994 08:49:37 GMT\r\nETag: \"abc\"\r\nConnection: keep-alive\r\n\r\n".as_slice(),
+        ),
+        (
+            304,
+            Kind::File,
+            b"HTTP/1.1 304 Not Modified\r\nLast-Modified: Sun, 06 Nov 1994 08:49:37 GMT\r\nETag: \"abc\"\r\nConnection: keep-alive\r\n\r\n".as_slice(),
+        ),
+        (
+            200,
+            Kind::Html,
+            b"HTTP/1.1 200 OK\r\nContent-Type: text/html\r\nContent-Length: 3\r\nConnection: keep-alive\r\n\r\n".as_slice(),
+        ),
+        (
+            404,
+            Kind::File,
+            b"HTTP/1.1 404 Not Found\r\nContent-Type: application/octet-stream\r\nContent-Length: 3\r\nConnection: keep-alive\r\n\r\n".as_slice(),
+        ),
+    ] {
+        let head = ReplyHead {
+            kind,
+            modified: Some(Moment(784_111_777)),
+            tag: Tag::read(b"\"abc\""),
+            ..file(status)
+        };
+        writes(&rt, &head, want)?;
+    }
+    Ok(())
+}
+
+// 30 + 40 + 38 + 85 + 46 + 264 + 24 + 2 bytes of the eight lines that stand on a 206.
+#[test]
+fn the_longest_head_has_529_bytes(rt: HostRuntime) {
+    let mut tag = [b'a'; 256];
+    tag[0] = b'"';
+    tag[255] = b'"';
+    let head = ReplyHead {
+        framing: Framing::Length(u64::MAX),
+        part: Some((u64::MAX, u64::MAX, u64::MAX)),
+        modified: Some(Moment(253_402_300_799)),
+        tag: Tag::read(&tag),
+        ..file(206)
+    };
+    let mut out = [0; 1024];
+    assert_eq!(rt; reply_head(&head, &mut out), 529);
+}
