@@ -191,10 +191,6 @@ taken_form held n kept got.ClientFault t = absurd t
 taken_form held n kept (got.Refused f) t = tt
 taken_form held n kept got.NoMemory t = tt
 
-
-
-
-
 -- ---- the block at the front
 
 judged_ok : (o : Result Request HeadFault) (q : Request) → Judges o (Ok q) → o ≡ Ok q

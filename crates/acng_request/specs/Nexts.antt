@@ -1,9 +1,8 @@
 -- What the bytes of a connection ask next: a function of them, from the end of the request before on.
 use Rattle.std.specs.Prelude.{ℕ, Bool, ◌||◌, ◌==◌, List, take, drop, length, nat_le, Option, Some, None, option_and_then, cond, codes, bytes_eq, Result, Ok, Err}
-use Rattle.acng_base.specs.Heads.{values}
 use Rattle.acng_base.specs.Lines.{lines, head_block_len}
 use Rattle.acng_request.specs.RequestHeads.{Head, head_of, inner_lines}
-use Rattle.acng_request.specs.RequestFields.{value_of, part_of, since_of, closes, has_body}
+use Rattle.acng_request.specs.RequestFields.{value_of, part_of, since, closes, has_body}
 use Rattle.acng_request.specs.declared.got.Request.{Request}
 use Rattle.acng_request.specs.declared.got.HeadFault.{HeadFault}
 use Rattle.acng_request.specs.declared.got.HeadFault.TheVariants.{BadHead, TooLarge, Method, HasBody}
@@ -25,7 +24,7 @@ asked h = record {
   target = h.target;
   part = option_and_then part_of (value_of (codes "range") h.fields);
   if_range = value_of (codes "if-range") h.fields;
-  since = since_of (values (codes "if-none-match") h.fields) (value_of (codes "if-modified-since") h.fields);
+  since = since h.fields;
   close = h.minor == 0 || closes (value_of (codes "connection") h.fields);
   minor = h.minor;
 }
@@ -45,7 +44,8 @@ abbrev pub before_rest : List ℕ → Result Request HeadFault → Next
 before_rest rest (Ok r) = Asks r rest
 before_rest rest (Err fault) = Refuses fault
 
--- a head goes through the first empty line after one that isn't empty. It is judged once it is whole, or 16,384 bytes are there, which is this project's limit
+-- a head goes through the first empty line after one that isn't empty. It is judged once it is whole, or 16,384 bytes
+-- are there, which is this project's limit.
 abbrev pub by_block : List ℕ → Option ℕ → Next
 by_block bytes None = cond (nat_le 16384 (length bytes)) (Refuses TooLarge) Ends
 by_block bytes (Some n) = before_rest (drop n bytes) (read_block (take n bytes))

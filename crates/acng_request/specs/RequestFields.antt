@@ -50,10 +50,13 @@ part_of text = cond (bytes_eq (take 6 text) (codes "bytes=")) (places_of (drop 6
 abbrev pub moment_of : List ℕ → Option Moment
 moment_of text = option_map (λ secs. record { 0 = secs }) (parse_secs text)
 
--- the date isn't read where the head has an `If-None-Match`
-abbrev pub since_of : List (List ℕ) → Option (List ℕ) → Option Moment
-since_of [] value = option_and_then moment_of value
-since_of (t ∷ ts) value = None
+abbrev pub since_unless : List (List ℕ) → Option (List ℕ) → Option Moment
+since_unless [] value = option_and_then moment_of value
+since_unless (t ∷ ts) value = None
+
+-- the date isn't read where there is an `If-None-Match`
+abbrev pub since : List (List ℕ × List ℕ) → Option Moment
+since fields = since_unless (values (codes "if-none-match") fields) (value_of (codes "if-modified-since") fields)
 
 -- ---- `Connection` (RFC 9112, section 9.6)
 

@@ -21,10 +21,18 @@ with_line line e ls =
     let method = at_byte space line in
     let target = at_byte space method.1 in
     let after = fields_of ls in
-    record { blank = []; method = method.0; target = target.0; minor = slice_index target.1 7 - 48; line_end = e; fields = after.0; last = after.1 }
+    record {
+      blank = [];
+      method = method.0;
+      target = target.0;
+      minor = slice_index target.1 7 - 48;
+      line_end = e;
+      fields = after.0;
+      last = after.1;
+    }
 
 abbrev pub after_blank : LineEnd → RequestHead → RequestHead
-after_blank e h = record { blank = e ∷ h.blank; method = h.method; target = h.target; minor = h.minor; line_end = h.line_end; fields = h.fields; last = h.last }
+after_blank e h = record h { blank = e ∷ h.blank }
 
 -- a block's lines as the parts of a request head, whether they are one or not
 abbrev pub guess : List (List ℕ × LineEnd) → RequestHead
@@ -34,7 +42,9 @@ guess ((b ∷ line, e) ∷ ls) = with_line (b ∷ line) e ls
 
 -- each part is of its class
 abbrev pub is_request_head : RequestHead → Bool
-is_request_head h = is_token h.method && nat_lt 0 (length h.target) && list_all is_uri_byte h.target && is_utf8 h.target && nat_le h.minor 1 && list_all is_field h.fields
+is_request_head h =
+    is_token h.method && nat_lt 0 (length h.target) && list_all is_uri_byte h.target && is_utf8 h.target && nat_le h.minor 1
+    && list_all is_field h.fields
 
 -- it is a head, and the block begins with it
 abbrev pub begins_with : List ℕ → RequestHead → Bool

@@ -14,7 +14,12 @@ use Rattle.acng_request.specs.declared.field.Named.TheVariants.{Absent, Once, Re
 
 -- the head that spans of a block cover
 abbrev pub head_at : List ℕ → RequestSpans → List HeaderSpan → Head
-head_at block r fields = record { method = span_bytes block r.method; target = span_bytes block r.path; minor = r.version; fields = map (header_bytes block) fields }
+head_at block r fields = record {
+  method = span_bytes block r.method;
+  target = span_bytes block r.path;
+  minor = r.version;
+  fields = map (header_bytes block) fields;
+}
 
 -- these are the values of the fields of one name
 abbrev pub AreNamed : List ℕ → Named → List (List ℕ) → Type 0

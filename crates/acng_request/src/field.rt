@@ -7,7 +7,7 @@ ghost use Rattle.std.specs.List.{list_any};
 ghost use Rattle.std.specs.Str.{str_to_ascii_lowercase};
 ghost use Rattle.httparse.specs.Spans.{IsHeaderWithin, IsWithin, header_bytes, span_bytes};
 ghost use Rattle.acng_base.specs.Heads.{values};
-ghost use Rattle.acng_request.specs.RequestFields.{value_of, part_of, places_of, part_from, moment_of, since_of, closes, says_close, is_close, is_there, is_length, has_body};
+ghost use Rattle.acng_request.specs.RequestFields.{value_of, part_of, places_of, part_from, moment_of, since, closes, says_close, is_close, is_there, is_length, has_body};
 ghost use Rattle.acng_request.specs.Spans.{AreNamed};
 
 use crate::got::Part;
@@ -64,7 +64,8 @@ fn is_name(text: &[u8], name: &[u8]) -> bool
 
 // The same with one more field.
 fn one_more(found: Named, value: Span) -> Named
-    ensures { (block : List ℕ) (vs : List (List ℕ)) → IsWithin (length block) value → AreNamed block found vs → AreNamed block result (vs ++ span_bytes block value ∷ []) }
+    ensures { (block : List ℕ) (vs : List (List ℕ)) → IsWithin (length block) value → AreNamed block found vs
+        → AreNamed block result (vs ++ span_bytes block value ∷ []) }
 {
     match found {
         Named::Absent => Named::Once(value),
@@ -160,7 +161,7 @@ fn part_from(first: u64, last: &[u8]) -> Option<Part>
 /// The moment of `If-Modified-Since` (RFC 9110, section 13.1.3). It isn't read where there is an `If-None-Match`.
 pub fn since(block: &[u8], fields: &[HeaderSpan]) -> Option<Moment>
     requires { All (IsHeaderWithin (length block.now)) fields.now }
-    ensures { result ≡ since_of (values (codes "if-none-match") (map (header_bytes block.now) fields.now)) (value_of (codes "if-modified-since") (map (header_bytes block.now) fields.now)) }
+    ensures { result ≡ since (map (header_bytes block.now) fields.now) }
 {
     if has_name(block, fields, b"if-none-match") {
         return None;

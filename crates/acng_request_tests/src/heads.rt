@@ -84,7 +84,10 @@ fn request_lines(rt: HostRuntime) -> Result<(), Fail> {
         rt.alloc(),
         [
             ("GET http://h/a HTTP/1.1\r\n\r\n", "GET http://h/a 1.1"),
-            ("GET http://H.Example:81/a%20b?x#y HTTP/1.1\r\n\r\n", "GET http://H.Example:81/a%20b?x#y 1.1"),
+            (
+                "GET http://H.Example:81/a%20b?x#y HTTP/1.1\r\n\r\n",
+                "GET http://H.Example:81/a%20b?x#y 1.1",
+            ),
             ("GET HTTP://h/a HTTP/1.1\r\n\r\n", "GET HTTP://h/a 1.1"),
             ("HEAD /debian/a HTTP/1.1\r\n\r\n", "HEAD /debian/a 1.1"),
             ("CONNECT h:443 HTTP/1.1\r\n\r\n", "CONNECT h:443 1.1"),
@@ -121,7 +124,10 @@ fn field_lines(rt: HostRuntime) -> Result<(), Fail> {
         &rt,
         rt.alloc(),
         [
-            ("GET / HTTP/1.1\r\nHost:h\r\nAccept:\t*/* \r\nX:\r\n\r\n", "GET / 1.1"),
+            (
+                "GET / HTTP/1.1\r\nHost:h\r\nAccept:\t*/* \r\nX:\r\n\r\n",
+                "GET / 1.1",
+            ),
             ("GET / HTTP/1.1\r\nX: a\u{e9}\tb\r\n\r\n", "GET / 1.1"),
             ("GET / HTTP/1.1\r\nX: a\r\n b\r\n\r\n", "bad"),
             ("GET / HTTP/1.1\r\nX: a\r\n\tb\r\n\r\n", "bad"),
@@ -154,19 +160,34 @@ fn methods_and_bodies(rt: HostRuntime) -> Result<(), Fail> {
             ("POST / HTTP/1.1\r\n\r\n", "method"),
             ("get / HTTP/1.1\r\n\r\n", "method"),
             ("OPTIONS * HTTP/1.1\r\n\r\n", "method"),
-            ("A-METHOD-OF-MORE-THAN-FIFTEEN-BYTES / HTTP/1.1\r\n\r\n", "method"),
+            (
+                "A-METHOD-OF-MORE-THAN-FIFTEEN-BYTES / HTTP/1.1\r\n\r\n",
+                "method",
+            ),
             ("PUT / HTTP/1.1\r\nContent-Length: 1\r\n\r\n", "method"),
             ("PUT / HTTP/9.9\r\nContent-Length: 1\r\n\r\n", "bad"),
             ("GET / HTTP/1.1\r\nContent-Length: 0\r\n\r\n", "GET / 1.1"),
-            ("GET / HTTP/1.1\r\ncontent-length:\t0 \r\nCONTENT-LENGTH: 0\r\n\r\n", "GET / 1.1"),
+            (
+                "GET / HTTP/1.1\r\ncontent-length:\t0 \r\nCONTENT-LENGTH: 0\r\n\r\n",
+                "GET / 1.1",
+            ),
             ("GET / HTTP/1.1\r\nContent-Length: 00\r\n\r\n", "body"),
             ("GET / HTTP/1.1\r\nContent-Length: 1\r\n\r\nx", "body"),
-            ("GET / HTTP/1.1\r\nContent-Length: 0\r\nContent-Length: 1\r\n\r\n", "body"),
+            (
+                "GET / HTTP/1.1\r\nContent-Length: 0\r\nContent-Length: 1\r\n\r\n",
+                "body",
+            ),
             ("GET / HTTP/1.1\r\nContent-Length:\r\n\r\n", "body"),
             ("HEAD / HTTP/1.1\r\nContent-Length: +0\r\n\r\n", "body"),
-            ("GET / HTTP/1.1\r\nTransfer-Encoding: chunked\r\n\r\n", "body"),
+            (
+                "GET / HTTP/1.1\r\nTransfer-Encoding: chunked\r\n\r\n",
+                "body",
+            ),
             ("GET / HTTP/1.1\r\ntransfer-encoding:\r\n\r\n", "body"),
-            ("CONNECT h:1 HTTP/1.1\r\nTransfer-Encoding: identity\r\n\r\n", "body"),
+            (
+                "CONNECT h:1 HTTP/1.1\r\nTransfer-Encoding: identity\r\n\r\n",
+                "body",
+            ),
         ]
         .as_slice(),
     )
@@ -178,27 +199,57 @@ fn ranges(rt: HostRuntime) -> Result<(), Fail> {
         &rt,
         rt.alloc(),
         [
-            ("GET / HTTP/1.1\r\nRange: bytes=0-0\r\n\r\n", "GET / 1.1 part 0-0"),
-            ("GET / HTTP/1.1\r\nRANGE:bytes=7-\r\n\r\n", "GET / 1.1 part 7-"),
-            ("GET / HTTP/1.1\r\nRange: bytes=00-1\r\n\r\n", "GET / 1.1 part 0-1"),
+            (
+                "GET / HTTP/1.1\r\nRange: bytes=0-0\r\n\r\n",
+                "GET / 1.1 part 0-0",
+            ),
+            (
+                "GET / HTTP/1.1\r\nRANGE:bytes=7-\r\n\r\n",
+                "GET / 1.1 part 7-",
+            ),
+            (
+                "GET / HTTP/1.1\r\nRange: bytes=00-1\r\n\r\n",
+                "GET / 1.1 part 0-1",
+            ),
             ("GET / HTTP/1.1\r\nRange: bytes=1-0\r\n\r\n", "GET / 1.1"),
             ("GET / HTTP/1.1\r\nRange: bytes=-5\r\n\r\n", "GET / 1.1"),
             ("GET / HTTP/1.1\r\nRange: bytes=-\r\n\r\n", "GET / 1.1"),
             ("GET / HTTP/1.1\r\nRange: bytes=5\r\n\r\n", "GET / 1.1"),
-            ("GET / HTTP/1.1\r\nRange: bytes=0-1,4-5\r\n\r\n", "GET / 1.1"),
+            (
+                "GET / HTTP/1.1\r\nRange: bytes=0-1,4-5\r\n\r\n",
+                "GET / 1.1",
+            ),
             ("GET / HTTP/1.1\r\nRange: bytes= 0-1\r\n\r\n", "GET / 1.1"),
             ("GET / HTTP/1.1\r\nRange: Bytes=0-1\r\n\r\n", "GET / 1.1"),
             ("GET / HTTP/1.1\r\nRange: lines=0-1\r\n\r\n", "GET / 1.1"),
-            ("GET / HTTP/1.1\r\nRange: bytes=0-1\r\nRange: bytes=0-1\r\n\r\n", "GET / 1.1"),
+            (
+                "GET / HTTP/1.1\r\nRange: bytes=0-1\r\nRange: bytes=0-1\r\n\r\n",
+                "GET / 1.1",
+            ),
             (
                 "GET / HTTP/1.1\r\nRange: bytes=9999999999999999998-9999999999999999999\r\n\r\n",
                 "GET / 1.1 part 9999999999999999998-9999999999999999999",
             ),
-            ("GET / HTTP/1.1\r\nRange: bytes=00000000000000000000-\r\n\r\n", "GET / 1.1"),
-            ("GET / HTTP/1.1\r\nRange: bytes=0-10000000000000000000\r\n\r\n", "GET / 1.1"),
-            ("GET / HTTP/1.1\r\nRange: bytes=1-2\r\nIf-Range: \"t\"\r\n\r\n", "GET / 1.1 part 1-2 if \"t\""),
-            ("GET / HTTP/1.1\r\nIf-Range: W/\"t\"\r\n\r\n", "GET / 1.1 if W/\"t\""),
-            ("GET / HTTP/1.1\r\nIf-Range: a\r\nIf-Range: a\r\n\r\n", "GET / 1.1"),
+            (
+                "GET / HTTP/1.1\r\nRange: bytes=00000000000000000000-\r\n\r\n",
+                "GET / 1.1",
+            ),
+            (
+                "GET / HTTP/1.1\r\nRange: bytes=0-10000000000000000000\r\n\r\n",
+                "GET / 1.1",
+            ),
+            (
+                "GET / HTTP/1.1\r\nRange: bytes=1-2\r\nIf-Range: \"t\"\r\n\r\n",
+                "GET / 1.1 part 1-2 if \"t\"",
+            ),
+            (
+                "GET / HTTP/1.1\r\nIf-Range: W/\"t\"\r\n\r\n",
+                "GET / 1.1 if W/\"t\"",
+            ),
+            (
+                "GET / HTTP/1.1\r\nIf-Range: a\r\nIf-Range: a\r\n\r\n",
+                "GET / 1.1",
+            ),
         ]
         .as_slice(),
     )
@@ -211,20 +262,62 @@ fn dates_and_connections(rt: HostRuntime) -> Result<(), Fail> {
         &rt,
         rt.alloc(),
         [
-            ("GET / HTTP/1.1\r\nIf-Modified-Since: Sun, 06 Nov 1994 08:49:37 GMT\r\n\r\n", "GET / 1.1 since 784111777"),
-            ("GET / HTTP/1.1\r\nIf-Modified-Since: Sunday, 06-Nov-94 08:49:37 GMT\r\n\r\n", "GET / 1.1 since 784111777"),
-            ("GET / HTTP/1.1\r\nIf-Modified-Since: Sun Nov  6 08:49:37 1994\r\n\r\n", "GET / 1.1 since 784111777"),
-            ("GET / HTTP/1.1\r\nIf-Modified-Since: Mon, 06 Nov 1994 08:49:37 GMT\r\n\r\n", "GET / 1.1"),
-            ("GET / HTTP/1.1\r\nIf-Modified-Since: yesterday\r\n\r\n", "GET / 1.1"),
-            ("GET / HTTP/1.1\r\nIf-None-Match: \"t\"\r\nIf-Modified-Since: Sun, 06 Nov 1994 08:49:37 GMT\r\n\r\n", "GET / 1.1"),
-            ("GET / HTTP/1.1\r\nIf-Modified-Since: Sun, 06 Nov 1994 08:49:37 GMT\r\nif-none-match: a\r\nif-none-match: b\r\n\r\n", "GET / 1.1"),
-            ("GET / HTTP/1.1\r\nConnection: close\r\n\r\n", "GET / 1.1 close"),
-            ("GET / HTTP/1.1\r\nconnection: keep-alive,\tCLOSE ,x\r\n\r\n", "GET / 1.1 close"),
-            ("GET / HTTP/1.1\r\nConnection: keep-alive\r\n\r\n", "GET / 1.1"),
-            ("GET / HTTP/1.1\r\nConnection: closed, not close\r\n\r\n", "GET / 1.1"),
-            ("GET / HTTP/1.1\r\nConnection: close\r\nConnection: close\r\n\r\n", "GET / 1.1"),
-            ("GET / HTTP/1.1\r\nConnection:,,close,\r\n\r\n", "GET / 1.1 close"),
-            ("GET / HTTP/1.0\r\nConnection: keep-alive\r\n\r\n", "GET / 1.0 close"),
+            (
+                "GET / HTTP/1.1\r\nIf-Modified-Since: Sun, 06 Nov 1994 08:49:37 GMT\r\n\r\n",
+                "GET / 1.1 since 784111777",
+            ),
+            (
+                "GET / HTTP/1.1\r\nIf-Modified-Since: Sunday, 06-Nov-94 08:49:37 GMT\r\n\r\n",
+                "GET / 1.1 since 784111777",
+            ),
+            (
+                "GET / HTTP/1.1\r\nIf-Modified-Since: Sun Nov  6 08:49:37 1994\r\n\r\n",
+                "GET / 1.1 since 784111777",
+            ),
+            (
+                "GET / HTTP/1.1\r\nIf-Modified-Since: Mon, 06 Nov 1994 08:49:37 GMT\r\n\r\n",
+                "GET / 1.1",
+            ),
+            (
+                "GET / HTTP/1.1\r\nIf-Modified-Since: yesterday\r\n\r\n",
+                "GET / 1.1",
+            ),
+            (
+                "GET / HTTP/1.1\r\nIf-None-Match: \"t\"\r\nIf-Modified-Since: Sun, 06 Nov 1994 08:49:37 GMT\r\n\r\n",
+                "GET / 1.1",
+            ),
+            (
+                "GET / HTTP/1.1\r\nIf-Modified-Since: Sun, 06 Nov 1994 08:49:37 GMT\r\nif-none-match: a\r\nif-none-match: b\r\n\r\n",
+                "GET / 1.1",
+            ),
+            (
+                "GET / HTTP/1.1\r\nConnection: close\r\n\r\n",
+                "GET / 1.1 close",
+            ),
+            (
+                "GET / HTTP/1.1\r\nconnection: keep-alive,\tCLOSE ,x\r\n\r\n",
+                "GET / 1.1 close",
+            ),
+            (
+                "GET / HTTP/1.1\r\nConnection: keep-alive\r\n\r\n",
+                "GET / 1.1",
+            ),
+            (
+                "GET / HTTP/1.1\r\nConnection: closed, not close\r\n\r\n",
+                "GET / 1.1",
+            ),
+            (
+                "GET / HTTP/1.1\r\nConnection: close\r\nConnection: close\r\n\r\n",
+                "GET / 1.1",
+            ),
+            (
+                "GET / HTTP/1.1\r\nConnection:,,close,\r\n\r\n",
+                "GET / 1.1 close",
+            ),
+            (
+                "GET / HTTP/1.0\r\nConnection: keep-alive\r\n\r\n",
+                "GET / 1.0 close",
+            ),
         ]
         .as_slice(),
     )

@@ -41,7 +41,13 @@ fn two_requests_and_a_front_in_one_input(rt: HostRuntime) -> Result<(), Fail> {
             .ok()
             .ok_or("memory")?;
         let mut buf = HeadBuf::new(alloc).ok().ok_or("memory")?;
-        read_each(&rt, alloc, &mut link, &mut buf, ["/a", "/b", "ended", "ended"].as_slice())?;
+        read_each(
+            &rt,
+            alloc,
+            &mut link,
+            &mut buf,
+            ["/a", "/b", "ended", "ended"].as_slice(),
+        )?;
     }
     Ok(())
 }
@@ -51,7 +57,9 @@ fn a_thousand_requests_in_one_input(rt: HostRuntime) -> Result<(), Fail> {
     let alloc = rt.alloc();
     let mut input = Vec::new(alloc);
     for number in 0..1000 {
-        let head = format!(in alloc; "GET /{number} HTTP/1.1\r\nHost: h.example\r\nAccept: */*\r\n\r\n")?;
+        let head = format!(in alloc;
+            "GET /{number} HTTP/1.1\r\nHost: h.example\r\nAccept: */*\r\n\r\n"
+        )?;
         input.extend_from_slice(head.as_bytes())?;
     }
     for cut in [1, 2, 7, 4096] {
@@ -114,7 +122,13 @@ fn so_many_bytes_as_decide_are_refused_without_the_link(rt: HostRuntime) -> Resu
         .ok()
         .ok_or("memory")?;
     let mut buf = HeadBuf::new(alloc).ok().ok_or("memory")?;
-    read_each(&rt, alloc, &mut link, &mut buf, ["large", "large"].as_slice())?;
+    read_each(
+        &rt,
+        alloc,
+        &mut link,
+        &mut buf,
+        ["large", "large"].as_slice(),
+    )?;
     assert_eq!(rt; link.faults(), 0);
     Ok(())
 }

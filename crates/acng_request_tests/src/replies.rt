@@ -60,8 +60,13 @@ fn writes(rt: &impl Abort, head: &ReplyHead, want: &[u8]) -> Result<(), Fail>
     Ok(())
 }
 
-// Three pieces in a row are the head's text.
-fn writes_three(rt: &impl Abort, alloc: Global, head: &ReplyHead, pieces: [&str; 3]) -> Result<(), Fail>
+// The head is these pieces in a row.
+fn writes_pieces(
+    rt: &impl Abort,
+    alloc: Global,
+    head: &ReplyHead,
+    pieces: [&str; 4],
+) -> Result<(), Fail>
     requires modified { IsWritable head.now.modified }
 {
     let mut want = Vec::new(alloc);
@@ -75,75 +80,123 @@ fn writes_three(rt: &impl Abort, alloc: Global, head: &ReplyHead, pieces: [&str;
 #[test]
 fn each_status_with_each_framing(rt: HostRuntime) -> Result<(), Fail> {
     for (status, first, last) in [
-        (200, "HTTP/1.1 200 OK\r\nContent-Type: text/plain\r\n", "Connection: close\r\n\r\n"),
-        (206, "HTTP/1.1 206 Partial Content\r\nContent-Type: text/plain\r\n", "Connection: close\r\n\r\n"),
-        (400, "HTTP/1.1 400 Bad Request\r\nContent-Type: text/plain\r\n", "Connection: close\r\n\r\n"),
-        (403, "HTTP/1.1 403 Forbidden\r\nContent-Type: text/plain\r\n", "Connection: close\r\n\r\n"),
-        (404, "HTTP/1.1 404 Not Found\r\nContent-Type: text/plain\r\n", "Connection: close\r\n\r\n"),
+        (
+            200,
+            "HTTP/1.1 200 OK\r\nContent-Type: text/plain\r\n",
+            "Connection: close\r\n",
+        ),
+        (
+            206,
+            "HTTP/1.1 206 Partial Content\r\nContent-Type: text/plain\r\n",
+            "Connection: close\r\n",
+        ),
+        (
+            400,
+            "HTTP/1.1 400 Bad Request\r\nContent-Type: text/plain\r\n",
+            "Connection: close\r\n",
+        ),
+        (
+            403,
+            "HTTP/1.1 403 Forbidden\r\nContent-Type: text/plain\r\n",
+            "Connection: close\r\n",
+        ),
+        (
+            404,
+            "HTTP/1.1 404 Not Found\r\nContent-Type: text/plain\r\n",
+            "Connection: close\r\n",
+        ),
         (
             405,
             "HTTP/1.1 405 Method Not Allowed\r\nContent-Type: text/plain\r\n",
-            "Allow: GET, HEAD\r\nConnection: close\r\n\r\n",
+            "Allow: GET, HEAD\r\nConnection: close\r\n",
         ),
-        (416, "HTTP/1.1 416 Range Not Satisfiable\r\nContent-Type: text/plain\r\n", "Connection: close\r\n\r\n"),
-        (431, "HTTP/1.1 431 Request Header Fields Too Large\r\nContent-Type: text/plain\r\n", "Connection: close\r\n\r\n"),
-        (500, "HTTP/1.1 500 Internal Server Error\r\nContent-Type: text/plain\r\n", "Connection: close\r\n\r\n"),
-        (502, "HTTP/1.1 502 Bad Gateway\r\nContent-Type: text/plain\r\n", "Connection: close\r\n\r\n"),
-        (503, "HTTP/1.1 503 Service Unavailable\r\nContent-Type: text/plain\r\n", "Connection: close\r\n\r\n"),
-        (507, "HTTP/1.1 507 Insufficient Storage\r\nContent-Type: text/plain\r\n", "Connection: close\r\n\r\n"),
+        (
+            416,
+            "HTTP/1.1 416 Range Not Satisfiable\r\nContent-Type: text/plain\r\n",
+            "Connection: close\r\n",
+        ),
+        (
+            431,
+            "HTTP/1.1 431 Request Header Fields Too Large\r\nContent-Type: text/plain\r\n",
+            "Connection: close\r\n",
+        ),
+        (
+            500,
+            "HTTP/1.1 500 Internal Server Error\r\nContent-Type: text/plain\r\n",
+            "Connection: close\r\n",
+        ),
+        (
+            502,
+            "HTTP/1.1 502 Bad Gateway\r\nContent-Type: text/plain\r\n",
+            "Connection: close\r\n",
+        ),
+        (
+            503,
+            "HTTP/1.1 503 Service Unavailable\r\nContent-Type: text/plain\r\n",
+            "Connection: close\r\n",
+        ),
+        (
+            507,
+            "HTTP/1.1 507 Insufficient Storage\r\nContent-Type: text/plain\r\n",
+            "Connection: close\r\n",
+        ),
     ] {
         for (framing, told) in [
             (Framing::Length(0), "Content-Length: 0\r\n"),
-            (Framing::Length(u64::MAX), "Content-Length: 18446744073709551615\r\n"),
+            (
+                Framing::Length(u64::MAX),
+                "Content-Length: 18446744073709551615\r\n",
+            ),
             (Framing::Chunked, "Transfer-Encoding: chunked\r\n"),
             (Framing::ToEnd, ""),
         ] {
-            writes_three(&rt, rt.alloc(), &line(status, framing), [first, told, last])?;
+            let pieces = [first, told, last, "\r\n"];
+            writes_pieces(&rt, rt.alloc(), &line(status, framing), pieces)?;
         }
     }
     for framing in [Framing::Length(3), Framing::Chunked, Framing::ToEnd] {
         let head = line(304, framing);
-        writes(&rt, &head, b"HTTP/1.1 304 Not Modified\r\nConnection: close\r\n\r\n".as_slice())?;
+        writes(
+            &rt,
+            &head,
+            b"HTTP/1.1 304 Not Modified\r\nConnection: close\r\n\r\n".as_slice(),
+        )?;
     }
     Ok(())
 }
 
 #[test]
 fn a_kind_is_told_and_a_connection_that_stays(rt: HostRuntime) -> Result<(), Fail> {
-    for (kind, want) in [
-        (
-            Kind::File,
-            b"HTTP/1.1 200 OK\r\nContent-Type: application/octet-stream\r\nContent-Length: 3\r\nConnection: keep-alive\r\n\r\n".as_slice(),
-        ),
-        (
-            Kind::Plain,
-            b"HTTP/1.1 200 OK\r\nContent-Type: text/plain\r\nContent-Length: 3\r\nConnection: keep-alive\r\n\r\n".as_slice(),
-        ),
-        (
-            Kind::Html,
-            b"HTTP/1.1 200 OK\r\nContent-Type: text/html\r\nContent-Length: 3\r\nConnection: keep-alive\r\n\r\n".as_slice(),
-        ),
+    for (kind, told) in [
+        (Kind::File, "Content-Type: application/octet-stream\r\n"),
+        (Kind::Plain, "Content-Type: text/plain\r\n"),
+        (Kind::Html, "Content-Type: text/html\r\n"),
     ] {
         let head = ReplyHead { kind, ..file(200) };
-        writes(&rt, &head, want)?;
+        let pieces = [
+            "HTTP/1.1 200 OK\r\n",
+            told,
+            "Content-Length: 3\r\n",
+            "Connection: keep-alive\r\n\r\n",
+        ];
+        writes_pieces(&rt, rt.alloc(), &head, pieces)?;
     }
     Ok(())
 }
 
 #[test]
 fn a_part_is_told_on_206_and_its_want_on_416(rt: HostRuntime) -> Result<(), Fail> {
-    for (status, want) in [
-        (
-            200,
-            b"HTTP/1.1 200 OK\r\nContent-Type: application/octet-stream\r\nContent-Length: 3\r\nConnection: keep-alive\r\n\r\n".as_slice(),
-        ),
+    for (status, line, part) in [
+        (200, "HTTP/1.1 200 OK\r\n", ""),
         (
             206,
-            b"HTTP/1.1 206 Partial Content\r\nContent-Type: application/octet-stream\r\nContent-Length: 3\r\nContent-Range: bytes 2-4/9\r\nConnection: keep-alive\r\n\r\n".as_slice(),
+            "HTTP/1.1 206 Partial Content\r\n",
+            "Content-Range: bytes 2-4/9\r\n",
         ),
         (
             416,
-            b"HTTP/1.1 416 Range Not Satisfiable\r\nContent-Type: application/octet-stream\r\nContent-Length: 3\r\nContent-Range: bytes */9\r\nConnection: keep-alive\r\n\r\n".as_slice(),
+            "HTTP/1.1 416 Range Not Satisfiable\r\n",
+            "Content-Range: bytes */9\r\n",
         ),
     ] {
         let head = ReplyHead {
@@ -151,7 +204,13 @@ fn a_part_is_told_on_206_and_its_want_on_416(rt: HostRuntime) -> Result<(), Fail
             total: Some(9),
             ..file(status)
         };
-        writes(&rt, &head, want)?;
+        let pieces = [
+            line,
+            "Content-Type: application/octet-stream\r\nContent-Length: 3\r\n",
+            part,
+            "Connection: keep-alive\r\n\r\n",
+        ];
+        writes_pieces(&rt, rt.alloc(), &head, pieces)?;
     }
     Ok(())
 }
@@ -159,32 +218,27 @@ fn a_part_is_told_on_206_and_its_want_on_416(rt: HostRuntime) -> Result<(), Fail
 // The date is the example of RFC 9110, section 5.6.7.
 #[test]
 fn date_and_tag_are_told_of_files_alone(rt: HostRuntime) -> Result<(), Fail> {
-    for (status, kind, want) in [
-        (
-            200,
-            Kind::File,
-            b"HTTP/1.1 200 OK\r\nContent-Type: application/octet-stream\r\nContent-Length: 3\r\nLast-Modified: Sun, 06 Nov 1994 08:49:37 GMT\r\nETag: \"abc\"\r\nConnection: keep-alive\r\n\r\n".as_slice(),
-        ),
+    let told = "Last-Modified: Sun, 06 Nov 1994 08:49:37 GMT\r\nETag: \"abc\"\r\n";
+    let octets = "Content-Type: application/octet-stream\r\nContent-Length: 3\r\n";
+    for (status, kind, line, body, told) in [
+        (200, Kind::File, "HTTP/1.1 200 OK\r\n", octets, told),
         (
             206,
             Kind::File,
-            b"HTTP/1.1 206 Partial Content\r\nContent-Type: application/octet-stream\r\nContent-Length: 3\r\nLast-Modified: Sun, 06 Nov 1994 08:49:37 GMT\r\nETag: \"abc\"\r\nConnection: keep-alive\r\n\r\n".as_slice(),
+            "HTTP/1.1 206 Partial Content\r\n",
+            octets,
+            told,
         ),
-        (
-            304,
-            Kind::File,
-            b"HTTP/1.1 304 Not Modified\r\nLast-Modified: Sun, 06 Nov 1994 08:49:37 GMT\r\nETag: \"abc\"\r\nConnection: keep-alive\r\n\r\n".as_slice(),
-        ),
+        (304, Kind::File, "HTTP/1.1 304 Not Modified\r\n", "", told),
+        (404, Kind::File, "HTTP/1.1 404 Not Found\r\n", octets, ""),
         (
             200,
             Kind::Html,
-            b"HTTP/1.1 200 OK\r\nContent-Type: text/html\r\nContent-Length: 3\r\nConnection: keep-alive\r\n\r\n".as_slice(),
+            "HTTP/1.1 200 OK\r\n",
+            "Content-Type: text/html\r\nContent-Length: 3\r\n",
+            "",
         ),
-        (
-            404,
-            Kind::File,
-            b"HTTP/1.1 404 Not Found\r\nContent-Type: application/octet-stream\r\nContent-Length: 3\r\nConnection: keep-alive\r\n\r\n".as_slice(),
-        ),
+        (304, Kind::Plain, "HTTP/1.1 304 Not Modified\r\n", "", ""),
     ] {
         let head = ReplyHead {
             kind,
@@ -192,7 +246,8 @@ fn date_and_tag_are_told_of_files_alone(rt: HostRuntime) -> Result<(), Fail> {
             tag: Tag::read(b"\"abc\""),
             ..file(status)
         };
-        writes(&rt, &head, want)?;
+        let pieces = [line, body, told, "Connection: keep-alive\r\n\r\n"];
+        writes_pieces(&rt, rt.alloc(), &head, pieces)?;
     }
     Ok(())
 }
