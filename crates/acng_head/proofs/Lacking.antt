@@ -13,7 +13,8 @@ use Rattle.acng_base.specs.declared.clock.Moment.{Moment}
 use Rattle.acng_head.specs.declared.head.Head.{Head}
 use Rattle.acng_head.specs.declared.head.Label.{Label}
 use Rattle.acng_head.specs.declared.head.Label.TheVariants.{Fetched, Imported}
-use Rattle.acng_head.specs.Records.{Lacks, AreValues, values_of, origin_text, moment_text, IsBoundedLabel, IsHead, year_10000}
+use Rattle.acng_base.specs.Moments.{moment_limit}
+use Rattle.acng_head.specs.Records.{Lacks, AreValues, values_of, origin_text, moment_text, IsBoundedLabel, IsHead}
 use Rattle.acng_head.proofs.Numbers.{Lacks-decimal}
 
 Lacks-append : (byte : ℕ) (xs ys : List ℕ) → Lacks byte xs → Lacks byte ys → Lacks byte (xs ++ ys)
@@ -111,7 +112,7 @@ Lacks-some_tag : (o : Option (List ℕ)) → IfSome o (λ t. is_tag t ≡ true) 
 Lacks-some_tag None h = tt
 Lacks-some_tag (Some t) h = Lacks-tag t h
 
-pub below : (o : Option Moment) → IfSome o (λ m. m.0 < year_10000) → IfSome o (λ m. m.0 < 2 ^ 64)
+pub below : (o : Option Moment) → IfSome o (λ m. m.0 < moment_limit) → IfSome o (λ m. m.0 < 2 ^ 64)
 below None h = tt
 below (Some m) h = omega arith
 

@@ -3,6 +3,7 @@ use Rattle.std.specs.Prelude.{◌≡◌, ◌≢◌, ℕ, ◌^◌, ◌<◌, ◌�
 use Rattle.std.specs.Prelude.{None, Some, option_map, IfSome}
 use Rattle.std.specs.Option.{option_copied}
 use Rattle.hex.specs.Hex.{IsBytes, encode_lower}
+use Rattle.acng_base.specs.Moments.{moment_limit}
 use Rattle.acng_base.specs.Paths.{path_refusal}
 use Rattle.acng_base.specs.Tags.{is_tag}
 use Rattle.acng_base.specs.declared.clock.Moment.{Moment}
@@ -104,15 +105,11 @@ abbrev pub IsBoundedLabel : ℕ → Label → Type 0
 IsBoundedLabel bytes (Fetched first last) = (first ≤ last) × (last < 2 ^ 63)
 IsBoundedLabel bytes (Imported sha256 size) = size ≡ bytes
 
--- the first second of the year 10000, since 1970
-abbrev pub year_10000 : ℕ
-year_10000 = 253402300800
-
 -- the bounds of a head that has a record
 pub record IsBounded (h : Head) : Type 0 where
   pub label : IsBoundedLabel h.size h.label
   pub size : h.size ≤ 2 ^ 41
-  pub modified : IfSome h.modified (λ m. m.0 < year_10000)
+  pub modified : IfSome h.modified (λ m. m.0 < moment_limit)
 
 -- a hash has 32 bytes
 abbrev pub IsHash : Hash → Type 0

@@ -1,17 +1,15 @@
 //! The reading of a record.
 ghost use Rattle.std.specs.Prelude.{◌≡◌, ◌≢◌, ◌<◌, ◌≤◌, ◌^◌, None, Some, true, IsTrue, ◌↔◌, IfOk, IfSome, MatchOption};
+ghost use Rattle.acng_base.specs.Moments.{moment_limit};
 ghost use Rattle.acng_base.specs.Paths.{path_refusal};
 ghost use Rattle.acng_head.specs.declared.head.Head.{Head};
-ghost use Rattle.acng_head.specs.Records.{IsHead, IsRecordOf, values_of, cut_values, year_10000};
+ghost use Rattle.acng_head.specs.Records.{IsHead, IsRecordOf, values_of, cut_values};
 
 use crate::head::Head;
 use crate::lines::{Lines, cut};
 use crate::values::{label, moment, number, tag};
 use acng_base::{CachePath, MOST_BYTES, Moment, NoMemory, PathFault};
 use std::alloc::Global;
-
-/// The first second of the year 10000, since 1970.
-const YEAR_10000: u64 = 253_402_300_800;
 
 /// Reads a record; None for every other text. The memory is that of the head's path.
 pub fn read_head(alloc: Global, bytes: &[u8]) -> Result<Option<Head>, NoMemory>
@@ -61,10 +59,10 @@ fn head_of(path: CachePath, lines: &Lines) -> Option<Head>
 }
 
 fn is_bounded(size: u64, modified: Option<Moment>) -> bool
-    ensures { IsTrue result ↔ ((size ≤ 2 ^ 41) × IfSome modified (λ m. m.0 < year_10000)) }
+    ensures { IsTrue result ↔ ((size ≤ 2 ^ 41) × IfSome modified (λ m. m.0 < moment_limit)) }
 {
     match modified {
-        Some(Moment(seconds)) => size <= MOST_BYTES && seconds < YEAR_10000,
+        Some(Moment(seconds)) => size <= MOST_BYTES && seconds < Moment::LIMIT,
         None => size <= MOST_BYTES,
     }
 }

@@ -3,7 +3,8 @@ use Rattle.std.proofs.lemmas.Bool.{false≢true}
 use Rattle.std.proofs.lemmas.Fmt.{decimal_injective}
 use Rattle.std.specs.Option.{IfSome}
 use Rattle.acng_head.specs.declared.head.Head.{Head}
-use Rattle.acng_head.specs.Records.{IsHead, IsBoundedLabel, Values, values_of, year_10000}
+use Rattle.acng_base.specs.Moments.{moment_limit}
+use Rattle.acng_head.specs.Records.{IsHead, IsBoundedLabel, Values, values_of}
 use Rattle.acng_head.proofs.Lacking.{below}
 use Rattle.acng_head.proofs.Same.{moment_same}
 use Rattle.acng_head.proofs.Texts.{values_same}
@@ -53,7 +54,7 @@ returns-then-not-is_bounded c = λ h is e.
     let same = size_same h _ c.in_ok-size.size is e c.in_ok-size.ensures.0 c.in_ok-size.ensures.1 in
     let modified = moment_same c.in_ok-modified.modified h.modified c.in_ok-modified.ensures.0 (below h.modified is.bounded.modified)
     (c.in_ok-modified.ensures.1 ∙ sym (ap (λ (v : Values). v.modified) e)) in
-    let within = subst (λ o. IfSome o (λ m. m.0 < year_10000)) (sym modified) is.bounded.modified in
+    let within = subst (λ o. IfSome o (λ m. m.0 < moment_limit)) (sym modified) is.bounded.modified in
     let bytes : c.in_ok-size.size ≤ 2 ^ 41 = omega (arith, same, is.bounded.size) in
     false≢true (sym c.if-not-is_bounded.true ∙ c.is_bounded.ensures.1 (bytes, within))
 

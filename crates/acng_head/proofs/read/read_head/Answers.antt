@@ -34,6 +34,6 @@ pub returns-in_default-fault : goal.returns-in_default-fault
 returns-in_default-fault c =
     let values = cut_values c.in-Some.lines in
     let bad : path_refusal values.path ≢ None = λ n.
-        refuses c.in-Err.fault c.in_default-fault.not-NoMemory (sym c.in-Err.ensures.refused ∙ n) in
+    refuses c.in-Err.fault c.in_default-fault.not-NoMemory (sym c.in-Err.ensures.refused ∙ n) in
     let none = no_path values c.args.bytes.now c.in-Some.ensures.0 c.in-Some.ensures.1 bad in
     record { head = none; same = λ h r. absurd (none h r) }
