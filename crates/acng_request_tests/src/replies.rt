@@ -76,91 +76,54 @@ fn writes_pieces(
     writes(rt, head, want.as_slice())
 }
 
+// A head of the line in each framing.
+fn writes_framings(rt: &impl Abort, alloc: Global, status: u16, first: &str) -> Result<(), Fail> {
+    let allow = if status == 405 {
+        "Allow: GET, HEAD\r\n"
+    } else {
+        ""
+    };
+    for (framing, told) in [
+        (
+            Framing::Length(0),
+            "Content-Type: text/plain\r\nContent-Length: 0\r\n",
+        ),
+        (
+            Framing::Length(u64::MAX),
+            "Content-Type: text/plain\r\nContent-Length: 18446744073709551615\r\n",
+        ),
+        (
+            Framing::Chunked,
+            "Content-Type: text/plain\r\nTransfer-Encoding: chunked\r\n",
+        ),
+        (Framing::ToEnd, "Content-Type: text/plain\r\n"),
+    ] {
+        let told = if status == 304 { "" } else { told };
+        let pieces = [first, told, allow, "Connection: close\r\n\r\n"];
+        writes_pieces(rt, alloc, &line(status, framing), pieces)?;
+    }
+    Ok(())
+}
+
 // The registered phrases of RFC 9110, section 15, RFC 6585, section 5, and RFC 4918, section 11.5.
 #[test]
 fn each_status_with_each_framing(rt: HostRuntime) -> Result<(), Fail> {
-    for (status, first, last) in [
-        (
-            200,
-            "HTTP/1.1 200 OK\r\nContent-Type: text/plain\r\n",
-            "Connection: close\r\n",
-        ),
-        (
-            206,
-            "HTTP/1.1 206 Partial Content\r\nContent-Type: text/plain\r\n",
-            "Connection: close\r\n",
-        ),
-        (
-            400,
-            "HTTP/1.1 400 Bad Request\r\nContent-Type: text/plain\r\n",
-            "Connection: close\r\n",
-        ),
-        (
-            403,
-            "HTTP/1.1 403 Forbidden\r\nContent-Type: text/plain\r\n",
-            "Connection: close\r\n",
-        ),
-        (
-            404,
-            "HTTP/1.1 404 Not Found\r\nContent-Type: text/plain\r\n",
-            "Connection: close\r\n",
-        ),
-        (
-            405,
-            "HTTP/1.1 405 Method Not Allowed\r\nContent-Type: text/plain\r\n",
-            "Allow: GET, HEAD\r\nConnection: close\r\n",
-        ),
-        (
-            416,
-            "HTTP/1.1 416 Range Not Satisfiable\r\nContent-Type: text/plain\r\n",
-            "Connection: close\r\n",
-        ),
-        (
-            431,
-            "HTTP/1.1 431 Request Header Fields Too Large\r\nContent-Type: text/plain\r\n",
-            "Connection: close\r\n",
-        ),
-        (
-            500,
-            "HTTP/1.1 500 Internal Server Error\r\nContent-Type: text/plain\r\n",
-            "Connection: close\r\n",
-        ),
-        (
-            502,
-            "HTTP/1.1 502 Bad Gateway\r\nContent-Type: text/plain\r\n",
-            "Connection: close\r\n",
-        ),
-        (
-            503,
-            "HTTP/1.1 503 Service Unavailable\r\nContent-Type: text/plain\r\n",
-            "Connection: close\r\n",
-        ),
-        (
-            507,
-            "HTTP/1.1 507 Insufficient Storage\r\nContent-Type: text/plain\r\n",
-            "Connection: close\r\n",
-        ),
+    for (status, first) in [
+        (200, "HTTP/1.1 200 OK\r\n"),
+        (206, "HTTP/1.1 206 Partial Content\r\n"),
+        (304, "HTTP/1.1 304 Not Modified\r\n"),
+        (400, "HTTP/1.1 400 Bad Request\r\n"),
+        (403, "HTTP/1.1 403 Forbidden\r\n"),
+        (404, "HTTP/1.1 404 Not Found\r\n"),
+        (405, "HTTP/1.1 405 Method Not Allowed\r\n"),
+        (416, "HTTP/1.1 416 Range Not Satisfiable\r\n"),
+        (431, "HTTP/1.1 431 Request Header Fields Too Large\r\n"),
+        (500, "HTTP/1.1 500 Internal Server Error\r\n"),
+        (502, "HTTP/1.1 502 Bad Gateway\r\n"),
+        (503, "HTTP/1.1 503 Service Unavailable\r\n"),
+        (507, "HTTP/1.1 507 Insufficient Storage\r\n"),
     ] {
-        for (framing, told) in [
-            (Framing::Length(0), "Content-Length: 0\r\n"),
-            (
-                Framing::Length(u64::MAX),
-                "Content-Length: 18446744073709551615\r\n",
-            ),
-            (Framing::Chunked, "Transfer-Encoding: chunked\r\n"),
-            (Framing::ToEnd, ""),
-        ] {
-            let pieces = [first, told, last, "\r\n"];
-            writes_pieces(&rt, rt.alloc(), &line(status, framing), pieces)?;
-        }
-    }
-    for framing in [Framing::Length(3), Framing::Chunked, Framing::ToEnd] {
-        let head = line(304, framing);
-        writes(
-            &rt,
-            &head,
-            b"HTTP/1.1 304 Not Modified\r\nConnection: close\r\n\r\n".as_slice(),
-        )?;
+        writes_framings(&rt, rt.alloc(), status, first)?;
     }
     Ok(())
 }
