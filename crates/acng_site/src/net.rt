@@ -6,6 +6,7 @@
 ghost use Rattle.std.specs.Prelude.{◌≡◌, ◌<◌, false, [], IfSome, IfErr};
 ghost use Rattle.std.specs.Io.{ReadsAtMost};
 ghost use Rattle.std.specs.Io.KnownBytes.{ReadConsumes};
+ghost use Rattle.acng_base.specs.Moments.{moment_limit};
 ghost use Rattle.acng_site.specs.Dials.{DialsFor};
 
 use crate::ask::Ask;
@@ -113,7 +114,7 @@ impl<N: Net + Drop> Origin<Untold> for NetOrigin<N> {
         attempt: Try<Untold>,
         ask: &Ask,
     ) -> Dial<NetConn<N::Stream>, AttemptSlip>
-        requires since { IfSome ask.now.since (λ moment. moment.0 < 253402300800) }
+        requires since { IfSome ask.now.since (λ moment. moment.0 < moment_limit) }
         ensures answer { DialsFor ⟦<Untold as Site>⟧ ⟦<NetConn<N::Stream> as Conn>⟧ ⟦<AttemptSlip as OriginSlip>⟧
             attempt.number ask.now result }
     {

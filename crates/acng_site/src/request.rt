@@ -5,6 +5,7 @@
 ghost use Rattle.std.specs.Prelude.{◌≡◌, ◌<◌, ◌++◌, List, ℕ, codes, decimal, IfOk, IfSome, OnOk, IsErrOf, IsOkUnless};
 ghost use Rattle.httpdate.specs.Date.{unix_secs};
 ghost use Rattle.url.specs.Parts.{Parts};
+ghost use Rattle.acng_base.specs.Moments.{moment_limit};
 ghost use Rattle.acng_site.specs.Requests.{IsDialed, IsRequestOf, IsSinceLine, host_part, is_literal, range_lines, target};
 
 use crate::ask::Ask;
@@ -34,7 +35,7 @@ pub struct Request {
 impl Request {
     /// The request of an ask. A moment to compare with is one that HTTP can write: before the year 10000.
     pub fn of(alloc: Global, ask: &Ask) -> Result<Request, UrlFault>
-        requires since { IfSome ask.now.since (λ moment. moment.0 < 253402300800) }
+        requires since { IfSome ask.now.since (λ moment. moment.0 < moment_limit) }
         ensures url { IfOk result (λ request. IsDialed ask.now.url request.url) }
         ensures text { IfOk result (λ request. IsRequestOf request.url ask.now request.text) }
         ensures accepted { (u : Parts) → IsDialed ask.now.url u → IsOkUnless result UrlFault.NoMemory }
@@ -73,7 +74,7 @@ pub(crate) fn has_literal(url: &Url) -> bool
 
 // The text that asks for it at the URL.
 fn ask_text(alloc: Global, url: &Url, ask: &Ask) -> Result<Text, NoMemory>
-    requires since { IfSome ask.now.since (λ moment. moment.0 < 253402300800) }
+    requires since { IfSome ask.now.since (λ moment. moment.0 < moment_limit) }
     ensures { IfOk result (λ text. IsRequestOf url.now ask.now text) }
 {
     let mut text = Vec::from_slice(alloc, b"GET ")?;
@@ -118,7 +119,7 @@ fn push_range(text: &mut Vec<u8>, ask: &Ask) -> Result<(), NoMemory>
 }
 
 fn push_since(text: &mut Vec<u8>, ask: &Ask) -> Result<(), NoMemory>
-    requires since { IfSome ask.now.since (λ moment. moment.0 < 253402300800) }
+    requires since { IfSome ask.now.since (λ moment. moment.0 < moment_limit) }
     ensures { OnOk result ((line : List ℕ) × IsSinceLine ask.now.since line × (text.new.items ≡ text.old.items ++ line)) }
 {
     let Some(moment) = ask.since else {
@@ -131,7 +132,7 @@ fn push_since(text: &mut Vec<u8>, ask: &Ask) -> Result<(), NoMemory>
 }
 
 fn date_of(moment: Moment) -> HttpDate
-    requires { moment.0 < 253402300800 }
+    requires { moment.0 < moment_limit }
     ensures { unix_secs result ≡ moment.0 }
 {
     HttpDate::from_unix_secs(moment.0).unwrap()
