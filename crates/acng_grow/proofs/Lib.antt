@@ -1,0 +1,7 @@
+pub mod Following
+pub mod Frames
+pub mod Fronts
+pub mod Growth
+pub mod Kept
+pub mod Pieces
+pub mod Steps

@@ -1,0 +1,13 @@
+pub mod Agrees
+pub mod Allowed
+pub mod Causes
+pub mod Download
+pub mod Effects
+pub mod Events
+pub mod Faithful
+pub mod Follows
+pub mod Grown
+pub mod Keeps
+pub mod Sends
+pub mod Stands
+pub mod Takes
