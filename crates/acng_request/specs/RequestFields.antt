@@ -5,6 +5,7 @@ use Rattle.std.specs.List.{list_any, slice_split}
 use Rattle.std.specs.Str.{str_to_ascii_lowercase}
 use Rattle.httpdate.specs.Date.{parse_secs}
 use Rattle.acng_base.specs.Cuts.{trim, comma}
+use Rattle.acng_base.specs.Fields.{length_of}
 use Rattle.acng_base.specs.Heads.{values}
 use Rattle.acng_base.specs.Numbers.{number_of}
 use Rattle.acng_base.specs.declared.clock.Moment.{Moment}
@@ -77,10 +78,15 @@ abbrev pub is_there : List (List ℕ) → Bool
 is_there [] = false
 is_there (v ∷ vs) = true
 
--- a `Content-Length` that isn't `0`
-abbrev pub is_length : List ℕ × List ℕ → Bool
-is_length field = bytes_eq (str_to_ascii_lowercase field.0) (codes "content-length") && not (bytes_eq field.1 (codes "0"))
+-- a length other than nothing, and no length at all
+abbrev pub announces : Option ℕ → Bool
+announces None = true
+announces (Some n) = not (n == 0)
 
--- there is a `Transfer-Encoding`, or a `Content-Length` that isn't `0`
+-- a `Content-Length` whose value isn't nothing: leading zeros count as nothing
+abbrev pub is_length : List ℕ × List ℕ → Bool
+is_length field = bytes_eq (str_to_ascii_lowercase field.0) (codes "content-length") && announces (length_of field.1)
+
+-- there is a `Transfer-Encoding`, or a `Content-Length` whose value isn't nothing
 abbrev pub has_body : List (List ℕ × List ℕ) → Bool
 has_body fields = is_there (values (codes "transfer-encoding") fields) || list_any is_length fields

@@ -7,11 +7,12 @@ ghost use Rattle.std.specs.List.{list_any};
 ghost use Rattle.std.specs.Str.{str_to_ascii_lowercase};
 ghost use Rattle.httparse.specs.Spans.{IsHeaderWithin, IsWithin, header_bytes, span_bytes};
 ghost use Rattle.acng_base.specs.Heads.{values};
-ghost use Rattle.acng_request.specs.RequestFields.{value_of, part_of, places_of, part_from, moment_of, since, closes, says_close, is_close, is_there, is_length, has_body};
+ghost use Rattle.acng_request.specs.RequestFields.{value_of, part_of, places_of, part_from, moment_of, since, closes, says_close, is_close, is_there, is_length, announces, has_body};
+ghost use Rattle.acng_base.specs.Fields.{length_of};
 ghost use Rattle.acng_request.specs.Spans.{AreNamed};
 
 use crate::got::Part;
-use acng_base::{Moment, find_byte, read_digits, trim};
+use acng_base::{Moment, find_byte, read_digits, read_length, trim};
 use httparse::spans::{HeaderSpan, Span};
 use httpdate::HttpDate;
 
@@ -85,8 +86,8 @@ fn has_name(block: &[u8], fields: &[HeaderSpan], name: &[u8]) -> bool
     }
 }
 
-/// Whether the fields announce a body (RFC 9112, section 6): a `Transfer-Encoding` does, and a `Content-Length` that
-/// isn't `0`.
+/// Whether the fields announce a body (RFC 9112, section 6): a `Transfer-Encoding` does, and a `Content-Length` whose
+/// value isn't nothing.
 pub fn has_body(block: &[u8], fields: &[HeaderSpan]) -> bool
     requires { All (IsHeaderWithin (length block.now)) fields.now }
     ensures { result ≡ has_body (map (header_bytes block.now) fields.now) }
@@ -94,7 +95,7 @@ pub fn has_body(block: &[u8], fields: &[HeaderSpan]) -> bool
     has_name(block, fields, b"transfer-encoding") || has_length(block, fields)
 }
 
-// Whether there is a `Content-Length` that isn't `0`.
+// Whether there is a `Content-Length` whose value isn't nothing.
 fn has_length(block: &[u8], fields: &[HeaderSpan]) -> bool
     requires { All (IsHeaderWithin (length block.now)) fields.now }
     ensures { result ≡ list_any is_length (map (header_bytes block.now) fields.now) }
@@ -111,7 +112,17 @@ fn is_length(block: &[u8], field: &HeaderSpan) -> bool
     requires { IsHeaderWithin (length block.now) field.now }
     ensures { result ≡ is_length (header_bytes block.now field.now) }
 {
-    is_name(field.name.of(block), b"content-length") && field.value.of(block) != b"0".as_slice()
+    is_name(field.name.of(block), b"content-length") && announces(field.value.of(block))
+}
+
+// Whether the value of a `Content-Length` is another length than nothing, or none.
+fn announces(value: &[u8]) -> bool
+    ensures { result ≡ announces (length_of value.now) }
+{
+    match read_length(value) {
+        Some(count) => count != 0,
+        None => true,
+    }
 }
 
 /// The part that `Range` asks for (RFC 9110, section 14.1.2): `bytes=K-` or `bytes=K-M`, where K isn't above M.

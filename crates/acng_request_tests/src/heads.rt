@@ -72,7 +72,8 @@ PUT / HTTP/1.1\r\nContent-Length: 1\r\n\r\n^method|\
 PUT / HTTP/9.9\r\nContent-Length: 1\r\n\r\n^bad|\
 GET / HTTP/1.1\r\nContent-Length: 0\r\n\r\n^GET / 1.1|\
 GET / HTTP/1.1\r\ncontent-length:\t0 \r\nCONTENT-LENGTH: 0\r\n\r\n^GET / 1.1|\
-GET / HTTP/1.1\r\nContent-Length: 00\r\n\r\n^body|\
+GET / HTTP/1.1\r\nContent-Length: 00\r\n\r\n^GET / 1.1|\
+GET / HTTP/1.1\r\nContent-Length: 00000000000000\r\n\r\n^body|\
 GET / HTTP/1.1\r\nContent-Length: 1\r\n\r\nx^body|\
 GET / HTTP/1.1\r\nContent-Length: 0\r\nContent-Length: 1\r\n\r\n^body|\
 GET / HTTP/1.1\r\nContent-Length:\r\n\r\n^body|\
