@@ -1,6 +1,7 @@
 -- What a follower has sent of a body.
 use mathlib.Core.Logic.{inl, inr}
-use Rattle.std.proofs.Common.{◌≡◌, ◌⊎◌, ℕ, ◌+◌, ◌-◌, ◌≤◌, ◌<◌, Bool, true, false, List, [], ◌++◌, Option, None, Some, refl, sym, ap, ◌∙◌, subst, take, drop, length}
+use Rattle.std.proofs.Common.{◌≡◌, ◌⊎◌, ℕ, ◌+◌, ◌-◌, ◌≤◌, ◌<◌, Bool, true, false, List, [], ◌++◌, Option, None, Some, refl, sym}
+use Rattle.std.proofs.Common.{ap, ◌∙◌, subst, take, drop, length}
 use Rattle.std.proofs.Common.{arith, length-take, length-drop, length-append}
 use Rattle.std.proofs.Math.Seq.{take-add}
 use Rattle.std.specs.Io.KnownBytes.{Appends}
@@ -54,7 +55,8 @@ pub part_most : (text : List ℕ) (from size most : ℕ) (to : Option ℕ) → m
 part_most text from size most to is same = part_len text from to ∙ ap (λ n. end_at n to - from) (sym same) ∙ sym is
 
 -- a piece that was taken stands in it
-pub piece_stands : (text read_of buf : List ℕ) (from size most sent n : ℕ) (to : Option ℕ) → most ≡ end_at size to - from → size ≡ length text
+pub piece_stands : (text read_of buf : List ℕ) (from size most sent n : ℕ) (to : Option ℕ) → most ≡ end_at size to - from
+    → size ≡ length text
     → read_of ≡ text → take n buf ≡ take n (drop (from + sent) read_of) → length (take n buf) ≡ n → sent + n ≤ most
     → take (length (take n buf)) (drop sent (part_of text from to)) ≡ take n buf
 piece_stands text read_of buf from size most sent n to is same rests read len within =
@@ -69,7 +71,8 @@ told_or true = inl refl
 told_or false = inr (λ e. cc)
 
 -- what went out, as a front of some whole part
-pub filled : (b : Bool) (sending : Sending) (part : List ℕ) (sent most : ℕ) (w0 w1 : Option (List ℕ)) → (had : HasGone sending (b ≡ true) part sent w0 w1)
+pub filled : (b : Bool) (sending : Sending) (part : List ℕ) (sent most : ℕ) (w0 w1 : Option (List ℕ))
+    → (had : HasGone sending (b ≡ true) part sent w0 w1)
     → (b ≡ true → length part ≡ most) → sent ≤ most → Filled (b ≡ true) part had.bytes most
 filled b sending part sent most w0 w1 had long few =
     fill (b ≡ true) part had.bytes most (told_or b) long (λ t. had.front t ∙ ap (λ n. take n part) (sym had.count))
@@ -115,4 +118,5 @@ pub last_broke : (b : Bool) (sending : Sending) (part : List ℕ) (sent most k :
     → (had : HasGone sending (b ≡ true) part sent w0 w1) → (f : Filled (b ≡ true) part had.bytes most) → sent ≡ most
     → Appends w1 w2 (take k (last_text sending)) → BreaksAfter sending f.whole sent w0 w2
 last_broke b sending part sent most k w0 w1 w2 had f all came =
-    broke_after sending f.whole had.bytes sent k w0 w1 w2 (all_gone (b ≡ true) part had.bytes most f (had.count ∙ all)) had.count had.sends came
+    broke_after sending f.whole had.bytes sent k w0 w1 w2 (all_gone (b ≡ true) part had.bytes most f (had.count ∙ all)) had.count
+    had.sends came

@@ -1,5 +1,6 @@
 -- A chunk in a frame.
-use Rattle.std.proofs.Common.{◌≡◌, ℕ, suc, ◌+◌, ◌≤◌, ◌<◌, List, [], ◌∷◌, ◌++◌, take, drop, length, set, min, sym, ap, subst, ◌∙◌, arith, length-set, length-take, length-drop}
+use Rattle.std.proofs.Common.{◌≡◌, ℕ, suc, ◌+◌, ◌≤◌, ◌<◌, List, [], ◌∷◌, ◌++◌, take, drop, length, set, min, sym, ap, subst, ◌∙◌}
+use Rattle.std.proofs.Common.{arith, length-set, length-take, length-drop}
 use Rattle.std.proofs.Math.Seq.{take-add, take-length, take-suc-set}
 use Rattle.std.proofs.lemmas.List.{append_assoc, drop-append-le}
 use Rattle.acng_grow.specs.Sends.{chunk, long_line, size_line, zeros}
@@ -22,7 +23,8 @@ written frame line count room front =
     ∙ append_assoc (line ++ take count (drop 18 frame)) (13 ∷ []) (10 ∷ [])
     ∙ append_assoc line (take count (drop 18 frame)) (13 ∷ 10 ∷ [])
 
-pub framed_chunk : (old frame : List ℕ) (count start : ℕ) → 20 + count ≤ length frame → take 18 frame ≡ long_line count → drop 18 frame ≡ drop 18 old
+pub framed_chunk : (old frame : List ℕ) (count start : ℕ) → 20 + count ≤ length frame → take 18 frame ≡ long_line count
+    → drop 18 frame ≡ drop 18 old
     → length (long_line count) ≡ 18 → length (take count (drop 18 old)) ≡ count → start ≡ zeros (long_line count) → start ≤ 15
     → drop start (take (20 + count) (set (set frame (18 + count) 13) (18 + count + 1) 10)) ≡ chunk (take count (drop 18 old))
 framed_chunk old frame count start room front rest len long is few =

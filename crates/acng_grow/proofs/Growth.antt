@@ -13,7 +13,8 @@ use Rattle.acng_grow.specs.Stands.{StandsFor, StandsAt, file_of}
 use Rattle.acng_grow.specs.Effects.{Effect, Start, GoOn, Resume, Bytes, Finish, Same, Refuse, Cut, Part, Old}
 use Rattle.acng_grow.specs.Allowed.{Allowed, MayGoOn, MayKeep}
 use Rattle.acng_grow.specs.Keeps.{IsFetched}
-use Rattle.acng_grow.specs.Events.{Body, Event, Grow, Fail, Take, came, front, rest, grown, closed_by, stepped, GrowsBy, Closes, MayHappen}
+use Rattle.acng_grow.specs.Events.{Body, Event, Grow, Fail, Take, came, front, rest, grown, closed_by, stepped, GrowsBy, Closes}
+use Rattle.acng_grow.specs.Events.{MayHappen}
 use Rattle.acng_grow.specs.Events.{got_after, Goes, IsKept, BodiesGrow}
 use Rattle.acng_grow.proofs.Fronts.{front_trans, front_drop, took}
 use Rattle.acng_grow.proofs.Kept.{step_keeps}
@@ -36,11 +37,13 @@ opened_part : (o : Option Part) {S : Type 0} (s : SiteGhosts S) (path : List ℕ
 opened_part None s path g n may = absurd may
 opened_part (Some p) s path g n may = may.opening
 
-opened_old : (o : Option Old) {S : Type 0} (s : SiteGhosts S) (path : List ℕ) (g : Seen) → IsSomeAnd o (MayKeep s path g) → g.stage ≡ stage.Opening
+opened_old : (o : Option Old) {S : Type 0} (s : SiteGhosts S) (path : List ℕ) (g : Seen) → IsSomeAnd o (MayKeep s path g)
+    → g.stage ≡ stage.Opening
 opened_old None s path g may = absurd may
 opened_old (Some p) s path g may = may.opening
 
-came_grows : {S : Type 0} (s : SiteGhosts S) (b : Body) (x : Effect) (ahead : List Effect) → IsKept s b → Allowed s b.path b.errand b.seen x
+came_grows : {S : Type 0} (s : SiteGhosts S) (b : Body) (x : Effect) (ahead : List Effect) → IsKept s b
+    → Allowed s b.path b.errand b.seen x
     → take (length b.text) (came x ahead b).text ≡ b.text
 came_grows s b (Start n url facts) ahead k a = empty_front b.text [] (no_bytes s b k a.opening)
 came_grows s b (GoOn n) ahead k a = empty_front b.text b.held.part (no_bytes s b k (opened_part b.errand.part s b.path b.seen n a))
@@ -62,7 +65,8 @@ record Later {S : Type 0} (s : SiteGhosts S) (b c : Body) : Type 0 where
 as_it_was : {S : Type 0} (s : SiteGhosts S) (b : Body) → IsKept s b → Later s b b
 as_it_was s b k = record { kept = k; path = refl; grows = take-length b.text }
 
-came_later : {S : Type 0} (s : SiteGhosts S) (b : Body) (x : Effect) (ahead : List Effect) → IsKept s b → Allowed s b.path b.errand b.seen x
+came_later : {S : Type 0} (s : SiteGhosts S) (b : Body) (x : Effect) (ahead : List Effect) → IsKept s b
+    → Allowed s b.path b.errand b.seen x
     → Later s b (came x ahead b)
 came_later s b x ahead k a = record {
   kept = record { keeps = step_keeps s b.path b.errand b.held b.seen b.text x k.held k.keeps a; held = k.held };
@@ -70,11 +74,13 @@ came_later s b x ahead k a = record {
   grows = came_grows s b x ahead k a;
 }
 
-grown_later : {S : Type 0} (s : SiteGhosts S) (k : ℕ) (ahead : List Effect) (b : Body) → IsKept s b → GrowsBy s k ahead b → Later s b (grown k ahead b)
+grown_later : {S : Type 0} (s : SiteGhosts S) (k : ℕ) (ahead : List Effect) (b : Body) → IsKept s b → GrowsBy s k ahead b
+    → Later s b (grown k ahead b)
 grown_later s k [] b i may = absurd may
 grown_later s k (x ∷ xs) b i may = came_later s b (front k x) (rest k x xs) i may
 
-closed_later : {S : Type 0} (s : SiteGhosts S) (c : Shown) (b : Body) (st : Stage) → IsKept s b → Closes s c b st → Later s b (closed_by c b st)
+closed_later : {S : Type 0} (s : SiteGhosts S) (c : Shown) (b : Body) (st : Stage) → IsKept s b → Closes s c b st
+    → Later s b (closed_by c b st)
 closed_later s c b stage.Opening i may = came_later s b (Refuse c) [] i may
 closed_later s c b stage.Running i may = came_later s b (Cut c) [] i may
 closed_later s c b stage.Whole i may = as_it_was s b i
@@ -122,7 +128,8 @@ goes s from (e ∷ es) b c had got i stands g =
     let next = stepped b e in
     let more = got_after from b had e in
     let now : take (length more) (drop from next.text) ≡ more =
-    front_trans more (drop from b.text) (drop from next.text) (got_more from b had e stands) (front_drop from b.text next.text step.grows) in
+    front_trans more (drop from b.text) (drop from next.text) (got_more from b had e stands) (front_drop from b.text next.text
+    step.grows) in
     let r = goes s from es next c more got step.kept now g.1 in
     record { kept = r.kept; path = r.path ∙ step.path; grows = front_trans b.text next.text c.text step.grows r.grows; taken = r.taken }
 

@@ -11,7 +11,8 @@ use Rattle.acng_grow.specs.declared.facts.Stage.TheVariants.{Whole, Cut as CutOf
 use Rattle.acng_grow.specs.declared.why.Shown.{Shown}
 use Rattle.acng_grow.specs.Stands.{StandsFor, StandsWhole, StandsAt, FactsStand, file_of}
 use Rattle.acng_grow.specs.Effects.{Effect, Start, GoOn, Resume, Bytes, Finish, Same, Refuse, Cut, Part, Old, Errand, Texts}
-use Rattle.acng_grow.specs.Effects.{opening, started, went_on, kept_same, with_last, from_part, from_old, after, runs, text_after, spells, last_of}
+use Rattle.acng_grow.specs.Effects.{opening, started, went_on, kept_same, with_last, from_part, from_old, after, runs, text_after}
+use Rattle.acng_grow.specs.Effects.{spells, last_of}
 use Rattle.acng_grow.specs.Keeps.{IsBounded, IsFetched, HasRoom, HasTotal, KeepsSeen, KeepsText, Keeps, attempts_end}
 use Rattle.acng_grow.specs.Allowed.{MayStart, MayGoOn, MayResume, MayAdd, MayFinish, MayKeep, MayRefuse, MayCut, Allowed, AllAllowed}
 use Rattle.acng_grow.specs.Allowed.{PartStands, OldStands, TextsStand}
@@ -112,7 +113,13 @@ seen_resumed s path g n m k =
       dated = k.dated;
       bounded = last_bounded n g.label m.order m.bounded r.fetched k.bounded;
       opening = λ e. absurd (search rules);
-      running = λ e. record { url = r.url; label = last_some n g.label r.label; fetched = last_fetched n g.label r.fetched; shown = r.shown };
+      running = λ e. record {
+        url = r.url;
+        label = last_some n g.label r.label;
+        fetched = last_fetched n g.label r.fetched;
+        shown =
+            r.shown;
+      };
       whole = λ e. absurd (search rules);
       same = λ e. absurd (search rules);
       cut = λ e. absurd (search rules);
@@ -230,7 +237,8 @@ last_stands s path n None text i = tt
 last_stands s path n (Some (Fetched first last)) text i = i
 last_stands s path n (Some (Imported hash size)) text i = i
 
-stands_more : {S : Type 0} (s : SiteGhosts S) (path : List ℕ) (label : Option Label) (text piece : List ℕ) (size : ℕ) → IfSome label IsFetched
+stands_more : {S : Type 0} (s : SiteGhosts S) (path : List ℕ) (label : Option Label) (text piece : List ℕ) (size : ℕ)
+    → IfSome label IsFetched
     → IfSome label (λ l. StandsFor s path l text) → (s.tells ≡ true → IfSome label (λ l. StandsAt (file_of s path l) size piece))
     → size ≡ length text → IfSome label (λ l. StandsFor s path l (text ++ piece))
 stands_more s path None text piece size fetched stands next is = tt
@@ -269,7 +277,8 @@ text_went_on s path n p text size stands = record {
   same = λ e. absurd (search rules);
 }
 
-pub text_resumed : {S : Type 0} (s : SiteGhosts S) (path : List ℕ) (g : Seen) (n : ℕ) (text : List ℕ) → MayResume g n → KeepsText s path g text
+pub text_resumed : {S : Type 0} (s : SiteGhosts S) (path : List ℕ) (g : Seen) (n : ℕ) (text : List ℕ) → MayResume g n
+    → KeepsText s path g text
     → KeepsText s path (record g { label = option_map (with_last n) g.label }) text
 text_resumed s path g n text m k = record {
   size = k.size;
@@ -278,7 +287,8 @@ text_resumed s path g n text m k = record {
   same = λ e. absurd (search rules);
 }
 
-pub text_added : {S : Type 0} (s : SiteGhosts S) (path : List ℕ) (g : Seen) (piece text : List ℕ) → MayAdd s path g piece → KeepsSeen s path g
+pub text_added : {S : Type 0} (s : SiteGhosts S) (path : List ℕ) (g : Seen) (piece text : List ℕ) → MayAdd s path g piece
+    → KeepsSeen s path g
     → KeepsText s path g text → KeepsText s path (record g { size = g.size + length piece }) (text ++ piece)
 text_added s path g piece text m i k = record {
   size = ap (λ n. n + length piece) k.size ∙ sym (length-append text piece);
@@ -296,7 +306,8 @@ text_finished s path g text m i k = record {
   same = λ e. absurd (search rules);
 }
 
-pub text_kept : {S : Type 0} (s : SiteGhosts S) (path : List ℕ) (o : Old) (text : List ℕ) → o.size ≡ length text → StandsWhole s path o.label text
+pub text_kept : {S : Type 0} (s : SiteGhosts S) (path : List ℕ) (o : Old) (text : List ℕ) → o.size ≡ length text
+    → StandsWhole s path o.label text
     → KeepsText s path (kept_same o) text
 text_kept s path o text size stands = record {
   size = size;
@@ -317,7 +328,8 @@ text_cut s path g c text k =
 
 -- ---- an effect
 
-part_keeps : {S : Type 0} (s : SiteGhosts S) (path : List ℕ) (n : ℕ) (o : Option Part) (g : Seen) (text : List ℕ) → IsSomeAnd o (MayGoOn s path g n)
+part_keeps : {S : Type 0} (s : SiteGhosts S) (path : List ℕ) (n : ℕ) (o : Option Part) (g : Seen) (text : List ℕ)
+    → IsSomeAnd o (MayGoOn s path g n)
     → IfSome o (PartStands s path text) → Keeps s path (from_part n o g) text
 part_keeps s path n None g text may stands = absurd may
 part_keeps s path n (Some p) g text may stands =
@@ -356,13 +368,15 @@ opens s path = record {
 }
 
 -- every front of allowed effects keeps it
-pub front_keeps : {S : Type 0} (s : SiteGhosts S) (path : List ℕ) (e : Errand) (held : Texts) (g : Seen) (text : List ℕ) (xs ys : List Effect)
+pub front_keeps : {S : Type 0} (s : SiteGhosts S) (path : List ℕ) (e : Errand) (held : Texts) (g : Seen) (text : List ℕ) (xs ys :
+    List Effect)
     → TextsStand s path e held → Keeps s path g text → AllAllowed s path e g (xs ++ ys) → Keeps s path (runs e xs g) (spells held xs text)
 front_keeps s path e held g text [] ys h k a = k
 front_keeps s path e held g text (x ∷ xs) ys h k a =
     front_keeps s path e held (after e g x) (text_after held text x) xs ys h (step_keeps s path e held g text x h k a.0) a.1
 
-pub allowed_append : {S : Type 0} (s : SiteGhosts S) (path : List ℕ) (e : Errand) (g : Seen) (xs ys : List Effect) → AllAllowed s path e g xs
+pub allowed_append : {S : Type 0} (s : SiteGhosts S) (path : List ℕ) (e : Errand) (g : Seen) (xs ys : List Effect)
+    → AllAllowed s path e g xs
     → AllAllowed s path e (runs e xs g) ys → AllAllowed s path e g (xs ++ ys)
 allowed_append s path e g [] ys a b = b
 allowed_append s path e g (x ∷ xs) ys a b = (a.0, allowed_append s path e (after e g x) xs ys a.1 b)

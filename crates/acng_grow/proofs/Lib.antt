@@ -5,3 +5,4 @@ pub mod Growth
 pub mod Kept
 pub mod Pieces
 pub mod Steps
+mod Rows

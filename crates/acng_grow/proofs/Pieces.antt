@@ -15,7 +15,8 @@ use Rattle.acng_grow.specs.Sends.{AreSome, piece_text, framed, Sends, Breaks, Br
 
 -- ---- pieces in order
 
-framed_more : (sending : Sending) (ps : List (List ℕ)) (p : List ℕ) → framed sending (ps ++ p ∷ []) ≡ framed sending ps ++ piece_text sending p
+framed_more : (sending : Sending) (ps : List (List ℕ)) (p : List ℕ)
+    → framed sending (ps ++ p ∷ []) ≡ framed sending ps ++ piece_text sending p
 framed_more sending [] p = append-nil (piece_text sending p)
 framed_more sending (q ∷ ps) p =
     ap (λ t. piece_text sending q ++ t) (framed_more sending ps p)
@@ -50,13 +51,15 @@ sends_end sending text end w0 w1 w2 s came = record {
   pieces = s.pieces;
   some = s.some;
   cut = s.cut;
-  bytes = Appends-trans w0 w1 w2 (framed sending s.pieces) end (subst (Appends w0 w1) (append-nil (framed sending s.pieces)) s.bytes) came;
+  bytes = Appends-trans w0 w1 w2 (framed sending s.pieces) end (subst (Appends w0 w1) (append-nil (framed sending s.pieces)) s.bytes)
+      came;
 }
 
 -- ---- the asked part
 
 -- a piece of a text stands in the part of it that begins at a place, where it ends there
-pub in_part : (text buf : List ℕ) (from e sent n : ℕ) → take n buf ≡ take n (drop (from + sent) text) → length (take n buf) ≡ n → sent + n ≤ e
+pub in_part : (text buf : List ℕ) (from e sent n : ℕ) → take n buf ≡ take n (drop (from + sent) text) → length (take n buf) ≡ n
+    → sent + n ≤ e
     → take (length (take n buf)) (drop sent (take e (drop from text))) ≡ take n buf
 in_part text buf from e sent n read len within =
     let few : n ≤ e - sent = omega arith in
@@ -71,13 +74,15 @@ in_part text buf from e sent n read len within =
 pub gone_none : (sending : Sending) (told : Type 0) (part : List ℕ) (w : Option (List ℕ)) → HasGone sending told part 0 w w
 gone_none sending told part w = record { bytes = []; count = refl; front = λ t. refl; sends = sends_none sending w }
 
-pub gone_more : (sending : Sending) (told : Type 0) (part piece : List ℕ) (sent : ℕ) (w0 w1 w2 : Option (List ℕ)) → HasGone sending told part sent w0 w1
+pub gone_more : (sending : Sending) (told : Type 0) (part piece : List ℕ) (sent : ℕ) (w0 w1 w2 : Option (List ℕ))
+    → HasGone sending told part sent w0 w1
     → 0 < length piece → (told → take (length piece) (drop sent part) ≡ piece) → Appends w1 w2 (piece_text sending piece)
     → HasGone sending told part (sent + length piece) w0 w2
 gone_more sending told part piece sent w0 w1 w2 had some stands came = record {
   bytes = had.bytes ++ piece;
   count = length-append had.bytes piece ∙ ap (λ n. n + length piece) had.count;
-  front = λ t. sym (take-add sent (length piece) part ∙ ap (λ p. take sent part ++ p) (stands t) ∙ ap (λ b. b ++ piece) (sym (had.front t)));
+  front = λ t. sym (take-add sent (length piece) part ∙ ap (λ p. take sent part ++ p) (stands t) ∙ ap (λ b. b ++ piece) (sym
+      (had.front t)));
   sends = sends_more sending had.bytes piece w0 w1 w2 had.sends some came;
 }
 
@@ -89,7 +94,8 @@ pub record Filled (told : Type 0) (part bytes : List ℕ) (most : ℕ) : Type 0 
   pub is : told → whole ≡ part
   pub front : take (length bytes) whole ≡ bytes
 
-pub fill : (told : Type 0) (part bytes : List ℕ) (most : ℕ) → told ⊎ (told → ⊥) → (told → length part ≡ most) → (told → bytes ≡ take (length bytes) part)
+pub fill : (told : Type 0) (part bytes : List ℕ) (most : ℕ) → told ⊎ (told → ⊥) → (told → length part ≡ most) → (told
+    → bytes ≡ take (length bytes) part)
     → length bytes ≤ most → Filled told part bytes most
 fill told part bytes most (inl t) long front few = record { whole = part; count = long t; is = λ _. refl; front = sym (front t) }
 fill told part bytes most (inr n) long front few =
@@ -99,7 +105,8 @@ fill told part bytes most (inr n) long front few =
     record { whole = bytes ++ pad; count = omega (arith, l, p, few); is = λ t. absurd (n t); front = take-append_seam bytes pad }
 
 -- all of it has gone
-pub all_gone : (told : Type 0) (part bytes : List ℕ) (most : ℕ) → (f : Filled told part bytes most) → length bytes ≡ most → bytes ≡ f.whole
+pub all_gone : (told : Type 0) (part bytes : List ℕ) (most : ℕ) → (f : Filled told part bytes most) → length bytes ≡ most
+    → bytes ≡ f.whole
 all_gone told part bytes most f all = sym f.front ∙ ap (λ n. take n f.whole) (all ∙ sym f.count) ∙ take-length f.whole
 
 -- what stands behind a front
@@ -117,7 +124,8 @@ before a piece whole front =
 
 -- the link failed in a piece
 pub broke_in : (sending : Sending) (told : Type 0) (part piece : List ℕ) (sent taken most : ℕ) (w0 w1 w2 : Option (List ℕ))
-    → (had : HasGone sending told part sent w0 w1) → (f : Filled told part (had.bytes ++ piece) most) → 0 < length piece → sent + length piece ≤ most
+    → (had : HasGone sending told part sent w0 w1) → (f : Filled told part (had.bytes ++ piece) most) → 0 < length piece
+    → sent + length piece ≤ most
     → Breaks sending piece taken w1 w2 → BreaksIn sending f.whole (sent + taken) w0 w2
 broke_in sending told part piece sent taken most w0 w1 w2 had f some few broke = record {
   mid = w1;
@@ -134,23 +142,27 @@ broke_in sending told part piece sent taken most w0 w1 w2 had f some few broke =
 }
 
 -- the link failed behind the whole part
-pub broke_after : (sending : Sending) (whole bytes : List ℕ) (sent k : ℕ) (w0 w1 w2 : Option (List ℕ)) → bytes ≡ whole → length bytes ≡ sent
+pub broke_after : (sending : Sending) (whole bytes : List ℕ) (sent k : ℕ) (w0 w1 w2 : Option (List ℕ)) → bytes ≡ whole
+    → length bytes ≡ sent
     → Sends sending bytes [] w0 w1 → Appends w1 w2 (take k (last_text sending)) → BreaksAfter sending whole sent w0 w2
 broke_after sending whole bytes sent k w0 w1 w2 is count s came = record {
   k = k;
-  sends = subst (λ t. Sends sending t (take k (last_text sending)) w0 w2) is (sends_end sending bytes (take k (last_text sending)) w0 w1 w2 s came);
+  sends = subst (λ t. Sends sending t (take k (last_text sending)) w0 w2) is (sends_end sending bytes (take k (last_text sending)) w0
+      w1 w2 s came);
   count = sym count ∙ ap length is;
 }
 
 -- the whole part and an end went out
-pub whole_sent : (sending : Sending) (whole bytes end : List ℕ) (w0 w1 w2 : Option (List ℕ)) → bytes ≡ whole → Sends sending bytes [] w0 w1
+pub whole_sent : (sending : Sending) (whole bytes end : List ℕ) (w0 w1 w2 : Option (List ℕ)) → bytes ≡ whole
+    → Sends sending bytes [] w0 w1
     → Appends w1 w2 end → Sends sending whole end w0 w2
 whole_sent sending whole bytes end w0 w1 w2 is s came =
     subst (λ t. Sends sending t end w0 w2) is (sends_end sending bytes end w0 w1 w2 s came)
 
 -- ---- one piece
 
-pub plain_broke : (sending : Sending) (piece : List ℕ) (k : ℕ) (w0 w1 : Option (List ℕ)) → (sending ≡ Length) ⊎ (sending ≡ ToEnd) → k ≤ length piece
+pub plain_broke : (sending : Sending) (piece : List ℕ) (k : ℕ) (w0 w1 : Option (List ℕ)) → (sending ≡ Length) ⊎ (sending ≡ ToEnd)
+    → k ≤ length piece
     → Appends w0 w1 (take k piece) → Breaks sending piece k w0 w1
 plain_broke Length piece k w0 w1 is few came = record { k = k; bytes = came; count = omega arith }
 plain_broke Chunked piece k w0 w1 (inl e) few came = cc
@@ -164,7 +176,8 @@ chunk_len piece =
 
 -- a chunk of which a front went out
 pub chunk_broke : (piece text : List ℕ) (k start count taken : ℕ) (w0 w1 : Option (List ℕ)) → text ≡ chunk piece → length piece ≡ count
-    → length (size_line count) ≡ 18 - start → taken ≡ min (k - (18 - start)) count → Appends w0 w1 (take k text) → Breaks Chunked piece taken w0 w1
+    → length (size_line count) ≡ 18 - start → taken ≡ min (k - (18 - start)) count → Appends w0 w1 (take k text)
+    → Breaks Chunked piece taken w0 w1
 chunk_broke piece text k start count taken w0 w1 is len line all came = record {
   k = k;
   bytes = subst (λ t. Appends w0 w1 (take k t)) is came;

@@ -19,7 +19,8 @@ use Rattle.acng_grow.proofs.Kept.{seen_added, text_added}
 
 -- the file's count of faults alone may have risen
 pub rests : {S : Type 0} {s : SiteGhosts S} {tells : Bool} {path : List ℕ} {seen : Seen} (old new : Option File) → LaterFile old new
-    → IsSound s tells (record { path = path; seen = seen; file = old }) → IsSound s tells (record { path = path; seen = seen; file = new })
+    → IsSound s tells (record { path = path; seen = seen; file = old })
+    → IsSound s tells (record { path = path; seen = seen; file = new })
 rests {s} {tells} {path} {seen} None new e i = subst (λ f. IsSound s tells (record { path = path; seen = seen; file = f })) (sym e) i
 rests (Some f) None l i = absurd l
 rests {s} {tells} {path} {seen} (Some (h, x)) (Some (k, y)) l i =
@@ -42,8 +43,10 @@ rests {s} {tells} {path} {seen} (Some (h, x)) (Some (k, y)) l i =
     }
 
 -- the same of the fields
-pub rested : {S F P Q : Type 0} {s : SiteGhosts S} {tells : Bool} (handle : F → Handle) (faults : F → Faults) (number : P → ℕ) (call : Q → ℕ)
-    {path : List ℕ} {url : Option (List ℕ)} {st : Stage} {label : Option Label} {facts : Facts} {file : Option F} (why : Option (Why P Q)) (f new : F)
+pub rested : {S F P Q : Type 0} {s : SiteGhosts S} {tells : Bool} (handle : F → Handle) (faults : F → Faults) (number : P
+    → ℕ) (call : Q → ℕ)
+    {path : List ℕ} {url : Option (List ℕ)} {st : Stage} {label : Option Label} {facts : Facts} {file : Option F} (why : Option (Why
+    P Q)) (f new : F)
     → file ≡ Some f → handle new ≡ handle f → Later (faults f) (faults new)
     → IsSound s tells (grown_of handle faults number call path url st label facts file why)
     → IsSound s tells (grown_of handle faults number call path url st label facts (Some new) why)
@@ -59,8 +62,10 @@ rested {s} {tells} handle faults number call {path} {url} {st} {label} {facts} {
     })) (sym same) k
 
 -- bytes were put at the end
-pub added : {S F P Q : Type 0} {s : SiteGhosts S} {tells : Bool} (handle : F → Handle) (faults : F → Faults) (number : P → ℕ) (call : Q → ℕ)
-    {path : List ℕ} {url : Option (List ℕ)} {st : Stage} {label : Option Label} {facts : Facts} {file : Option F} (why : Option (Why P Q)) (f new : F)
+pub added : {S F P Q : Type 0} {s : SiteGhosts S} {tells : Bool} (handle : F → Handle) (faults : F → Faults) (number : P
+    → ℕ) (call : Q → ℕ)
+    {path : List ℕ} {url : Option (List ℕ)} {st : Stage} {label : Option Label} {facts : Facts} {file : Option F} (why : Option (Why
+    P Q)) (f new : F)
     (piece : List ℕ) → file ≡ Some f → Appended tells piece (handle f) (handle new)
     → MayAdd s path (grown_of handle faults number call path url st label facts file why).seen piece
     → IsSound s tells (grown_of handle faults number call path url st label facts file why)
@@ -90,7 +95,8 @@ added {s} {tells} handle faults number call {path} {url} {st} {label} {facts} {f
 -- ---- the file has gone to a row
 
 -- no byte is a front of each file
-empty_stands : {S : Type 0} (s : SiteGhosts S) (path : List ℕ) (label : Option Label) → IfSome label IsFetched → IfSome label (λ l. StandsFor s path l [])
+empty_stands : {S : Type 0} (s : SiteGhosts S) (path : List ℕ) (label : Option Label) → IfSome label IsFetched
+    → IfSome label (λ l. StandsFor s path l [])
 empty_stands s path None f = tt
 empty_stands s path (Some (Fetched first last)) f = λ _. refl
 empty_stands s path (Some (Imported hash n)) f = absurd f
@@ -121,7 +127,8 @@ none_below : (o : Option ℕ) → IfSome o (λ t. 0 ≤ t)
 none_below None = tt
 none_below (Some t) = omega arith
 
-pub moved : {S F P Q : Type 0} {s : SiteGhosts S} {tells : Bool} (handle : F → Handle) (faults : F → Faults) (number : P → ℕ) (call : Q → ℕ)
+pub moved : {S F P Q : Type 0} {s : SiteGhosts S} {tells : Bool} (handle : F → Handle) (faults : F → Faults) (number : P
+    → ℕ) (call : Q → ℕ)
     {path : List ℕ} (url new_url : Option (List ℕ)) {st : Stage} {label : Option Label} {facts : Facts} (file new_file : Option F)
     (why : Option (Why P Q)) → st ≡ Cut → new_url ≡ None → new_file ≡ None
     → IsSound s tells (grown_of handle faults number call path url st label facts file why)

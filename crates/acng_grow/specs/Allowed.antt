@@ -10,7 +10,8 @@ use Rattle.acng_grow.specs.declared.why.Shown.{Shown}
 use Rattle.acng_grow.specs.Causes.{IsLawful, may_cut, may_refuse}
 use Rattle.acng_grow.specs.Stands.{StandsFor, StandsWhole, StandsAt, FactsStand, file_of}
 use Rattle.acng_grow.specs.Keeps.{IsBounded, IsDated, HasRoom, HasTotal, NotBelow, most_bytes, attempts_end}
-use Rattle.acng_grow.specs.Effects.{Effect, Start, GoOn, Resume, Bytes, Finish, Same, Refuse, Cut, Part, Old, Errand, Texts, after, last_of}
+use Rattle.acng_grow.specs.Effects.{Effect, Start, GoOn, Resume, Bytes, Finish, Same, Refuse, Cut, Part, Old, Errand, Texts}
+use Rattle.acng_grow.specs.Effects.{after, last_of}
 
 -- the body opens empty, by attempt n at a URL
 pub record MayStart {S : Type 0} (s : SiteGhosts S) (path : List ℕ) (g : Seen) (n : ℕ) (url : List ℕ) (f : Facts) : Type 0 where

@@ -51,7 +51,14 @@ abbrev pub started : ℕ → List ℕ → Facts → Seen
 started n url facts = record { url = Some url; stage = stage.Running; label = Some (Fetched n n); facts = facts; size = 0; shown = None }
 
 abbrev pub went_on : ℕ → Part → Seen
-went_on n p = record { url = Some p.url; stage = stage.Running; label = Some (Fetched p.first n); facts = p.facts; size = p.size; shown = None }
+went_on n p = record {
+  url = Some p.url;
+  stage = stage.Running;
+  label = Some (Fetched p.first n);
+  facts = p.facts;
+  size = p.size;
+  shown = None;
+}
 
 abbrev pub kept_same : Old → Seen
 kept_same o = record { url = None; stage = stage.Same; label = Some o.label; facts = o.facts; size = o.size; shown = None }

@@ -133,7 +133,8 @@ pub record TextGrows {S : Type 0} (s : SiteGhosts S) (from : ℕ) (b : Body) (b'
 
 -- however the events come
 abbrev pub BodiesGrow : {S : Type 0} → SiteGhosts S → Type 0
-BodiesGrow s = (from : ℕ) (es : List Event) (b b' : Body) (got : List ℕ) → IsKept s b → Goes s from b [] es b' got → TextGrows s from b b' got
+BodiesGrow s = (from : ℕ) (es : List Event) (b b' : Body) (got : List ℕ) → IsKept s b → Goes s from b [] es b' got
+    → TextGrows s from b b' got
 
 -- an allowed effect keeps all that a body keeps
 abbrev pub EffectsKeep : {S : Type 0} → SiteGhosts S → Type 0

@@ -1,5 +1,6 @@
 -- The sending of a body's part to a client.
-use Rattle.std.specs.Prelude.{◌≡◌, ◌⊎◌, ℕ, ◌-◌, ◌≤◌, Bool, true, false, ◌||◌, nat_le, min, List, [], length, take, drop, Option, None, Some, ⊤}
+use Rattle.std.specs.Prelude.{◌≡◌, ◌⊎◌, ℕ, ◌-◌, ◌≤◌, Bool, true, false, ◌||◌, nat_le, min, List, [], length, take, drop, Option}
+use Rattle.std.specs.Prelude.{None, Some, ⊤}
 use Rattle.acng_base.specs.Causes.{Rose}
 use Rattle.acng_grow.specs.declared.facts.Stage.{Stage}
 use Rattle.acng_grow.specs.declared.sending.Sending.{Sending}
@@ -30,7 +31,8 @@ part_of text from to = take (end_at (length text) to - from) (drop from text)
 -- ---- how the sending ended
 
 -- what the link has of the part, by whether it is there whole and by the body's cause
-abbrev pub FollowsTo : {Q : Type 0} → Sending → List ℕ → Bool → Option Shown → Option (List ℕ) → Option (List ℕ) → ℕ → FollowStop Q → Type 0
+abbrev pub FollowsTo : {Q : Type 0} → Sending → List ℕ → Bool → Option Shown → Option (List ℕ) → Option (List ℕ) → ℕ → FollowStop Q
+    → Type 0
 FollowsTo sending part there cause old new sent stop.Whole =
     (there ≡ true) × (sent ≡ length part) × Sends sending part (last_text sending) old new
 FollowsTo sending part there cause old new sent (stop.Cut c) =

@@ -1,6 +1,7 @@
 pub mod Agrees
 pub mod Allowed
 pub mod Causes
+pub mod Codes
 pub mod Download
 pub mod Effects
 pub mod Events

@@ -1,5 +1,6 @@
 -- The sending of a text to a client, in pieces of any length that isn't 0 (RFC 9112, sections 6 and 7.1).
-use Rattle.std.specs.Prelude.{◌≡◌, ℕ, ◌+◌, ◌-◌, ◌<◌, ◌≤◌, not, ◌==◌, min, List, [], ◌∷◌, ◌++◌, length, take, drop, Option, unwrap_or, ⊤, codes}
+use Rattle.std.specs.Prelude.{◌≡◌, ℕ, ◌+◌, ◌-◌, ◌<◌, ◌≤◌, not, ◌==◌, min, List, [], ◌∷◌, ◌++◌, length, take, drop, Option}
+use Rattle.std.specs.Prelude.{unwrap_or, ⊤, codes}
 use Rattle.std.specs.List.{concat, position}
 use Rattle.std.specs.Int.{w64, to_be_bytes}
 use Rattle.std.specs.Io.KnownBytes.{Appends}

@@ -64,6 +64,7 @@ AreFrom s path url (Fetched first last) facts = s.tells ≡ true → IsGiven s p
 AreFrom s path url (Imported hash size) facts = AreOfImport size facts
 
 -- the facts stand for the label of a body that was first asked for at the URL, where one is known
-pub record FactsStand {S : Type 0} (s : SiteGhosts S) (path : List ℕ) (url : Option (List ℕ)) (label : Label) (facts : Facts) : Type 0 where
+pub record FactsStand {S : Type 0} (s : SiteGhosts S) (path : List ℕ) (url : Option (List ℕ)) (label : Label) (facts : Facts) : Type
+    0 where
   pub total : IfSome facts.total (IsLength s path label)
   pub from : AreFrom s path url label facts
