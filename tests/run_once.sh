@@ -13,14 +13,16 @@ if [ ! -x crates/acng/out/acng ]; then
 fi
 printf 'hello from the mirror\n' > "$work/body"
 mkfifo "$work/stop"
+port=1
 if command -v python3 > /dev/null; then
-    python3 tests/mirror.py 80 "$work/body" < "$work/stop" > "$work/ready" 2> /dev/null &
+    python3 tests/mirror.py "$work/body" < "$work/stop" > "$work/ready" 2> /dev/null &
     exec 3> "$work/stop"
     for _ in $(seq 20); do [ -s "$work/ready" ] && break; sleep 0.1; done
+    [ -s "$work/ready" ] && port=$(cut -d ' ' -f 2 "$work/ready")
 else
     exec 3> /dev/null
 fi
-request='GET http://localhost/whole/pool/main/a/a_1_all.deb HTTP/1.1'
+request="GET http://localhost:$port/whole/pool/main/a/a_1_all.deb HTTP/1.1"
 echo "--- the request" >&2
 echo "$request" >&2
 echo "--- the reply" >&2

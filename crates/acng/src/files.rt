@@ -1,56 +1,28 @@
 //! The configuration file and the list files beside it.
 //!
 //! List files are the regular files of the configuration file's folder, without itself, in the byte order of their
-//! names. A configuration that isn't there counts as empty under its default name alone, and then no list file is read.
+//! names; names that aren't UTF-8 are passed over. A configuration that isn't there counts as empty under its default
+//! name alone, and then no list file is read.
 
-use acng_base::{NoMemory, Text};
+use acng_base::{FileFault, Text, named};
 use acng_conf::ListFile;
-use std::alloc::{AllocError, Global};
+use std::alloc::Global;
+use std::fs;
 use std::fs::File;
 use std::io::ErrorKind;
 use std::path::AsPath;
 use std::rt::Files;
-use std::{fs, io};
-
-/// Why the files weren't opened.
-#[derive(Clone, Copy, Debug, PartialEq, Eq)]
-pub enum FilesFault {
-    /// The system refused a call.
-    Failed,
-    NoMemory,
-}
-
-impl From<io::Error> for FilesFault {
-    fn from(error: io::Error) -> FilesFault {
-        match error.kind() {
-            ErrorKind::OutOfMemory => FilesFault::NoMemory,
-            _ => FilesFault::Failed,
-        }
-    }
-}
-
-impl From<NoMemory> for FilesFault {
-    fn from(_: NoMemory) -> FilesFault {
-        FilesFault::NoMemory
-    }
-}
-
-impl From<AllocError> for FilesFault {
-    fn from(_: AllocError) -> FilesFault {
-        FilesFault::NoMemory
-    }
-}
 
 /// The configuration file. None where it isn't there under its default name.
 pub fn open_conf(
     files: &impl Files<File = File>,
     path: &str,
     is_default: bool,
-) -> Result<Option<File>, FilesFault> {
+) -> Result<Option<File>, FileFault> {
     match File::open(files, path) {
         Ok(file) => Ok(Some(file)),
         Err(error) if is_default && error.kind() == ErrorKind::NotFound => Ok(None),
-        Err(error) => Err(FilesFault::from(error)),
+        Err(error) => Err(FileFault::from(error)),
     }
 }
 
@@ -59,16 +31,18 @@ pub fn lists_beside<R: Files<File = File> + AllocGlobal + Clone + Drop>(
     rt: &R,
     alloc: Global,
     path: &str,
-) -> Result<Vec<ListFile>, FilesFault> {
+) -> Result<Vec<ListFile>, FileFault> {
     let (folder, own) = split(path);
     let mut lists = Vec::new(alloc);
     for entry in fs::read_dir(rt, folder)? {
-        let entry = entry?;
+        let Some(entry) = named(entry)? else {
+            continue;
+        };
         if entry.file_name() != own && is_regular(rt, entry.path())? {
             let name = Text::copy(alloc, entry.file_name().as_bytes())?;
             let bytes = Text::of(fs::read(rt, entry.path())?);
             let Ok(()) = lists.push(ListFile { name, bytes }) else {
-                return Err(FilesFault::NoMemory);
+                return Err(FileFault::NoMemory);
             };
         }
     }
@@ -77,11 +51,11 @@ pub fn lists_beside<R: Files<File = File> + AllocGlobal + Clone + Drop>(
 }
 
 // A link to nothing isn't a regular file, nor is one that was removed meanwhile.
-fn is_regular<P: AsPath>(files: &impl Files<File = File>, path: P) -> Result<bool, FilesFault> {
+fn is_regular<P: AsPath>(files: &impl Files<File = File>, path: P) -> Result<bool, FileFault> {
     match fs::metadata(files, path) {
         Ok(about) => Ok(about.is_file()),
         Err(error) if error.kind() == ErrorKind::NotFound => Ok(false),
-        Err(error) => Err(FilesFault::from(error)),
+        Err(error) => Err(FileFault::from(error)),
     }
 }
 

@@ -7,28 +7,34 @@
 
 mod files;
 
-use acng_base::{NoMemory, StdLink, StdSink, StdSource, Text};
-use acng_cli::{Command, read_words, run_maint, run_single};
+use acng_base::{FileFault, NoMemory, StdLink, StdSink, StdSource, Text};
+use acng_cli::status::{FAILED, NO_MEMORY};
+use acng_cli::{Command, WordsFault, read_words, run_maint, run_single};
 use acng_site::NetOrigin;
-use files::{FilesFault, lists_beside, open_conf};
+use files::{lists_beside, open_conf};
 use std::alloc::Global;
 use std::process::ExitCode;
 use std::{env, io, str};
-
-/// The configuration or a list file can't be opened.
-const FAILED: u8 = 4;
-/// Memory was refused.
-const NO_MEMORY: u8 = 6;
 
 fn main(rt: HostRuntime) -> ExitCode {
     let Ok(words) = words_of(&rt) else {
         return ExitCode::from(NO_MEMORY);
     };
-    let status = match words.first() {
-        Some(word) if word.as_bytes() == b"once".as_slice() => answer(rt, &words),
-        _ => maintain(rt, &words),
+    ExitCode::from(run(rt, &words))
+}
+
+// Runs the command that the words name. What is wrong with other words is printed.
+fn run(rt: HostRuntime, words: &[Text]) -> u8 {
+    let read = match read_words(rt.alloc(), words) {
+        Ok(read) => read,
+        Err(WordsFault::NoMemory) => return NO_MEMORY,
+        Err(_) => return over_nothing(&rt, words),
     };
-    ExitCode::from(status)
+    match read.command {
+        Command::Once => answer(rt, words),
+        Command::CheckConf => check_conf(&rt, words, &read.conf),
+        _ => over_nothing(&rt, words),
+    }
 }
 
 // The words after the program's name. The standard library gives none where one isn't UTF-8: then a word that isn't
@@ -55,37 +61,32 @@ fn answer(rt: HostRuntime, words: &[Text]) -> u8 {
     status
 }
 
-// A command of maintenance, whose text goes to standard output.
-fn maintain(rt: HostRuntime, words: &[Text]) -> u8 {
-    match over_files(&rt, words) {
+// What is wrong with the configuration, printed to standard output.
+fn check_conf(rt: &HostRuntime, words: &[Text], path: &Text) -> u8 {
+    match over_files(rt, words, path) {
         Ok(status) => status,
-        Err(FilesFault::Failed) => FAILED,
-        Err(FilesFault::NoMemory) => NO_MEMORY,
+        Err(FileFault::Failed) => FAILED,
+        Err(FileFault::NoMemory) => NO_MEMORY,
     }
 }
 
-// No file is opened but for words that ask for a configuration.
-fn over_files(rt: &HostRuntime, words: &[Text]) -> Result<u8, FilesFault> {
+fn over_files(rt: &HostRuntime, words: &[Text], path: &Text) -> Result<u8, FileFault> {
     let alloc = rt.alloc();
+    let path = str::from_utf8(path.as_bytes()).unwrap_or("");
+    let Some(file) = open_conf(rt, path, !words.iter().any(is_conf_option))? else {
+        return Ok(over_nothing(rt, words));
+    };
+    let lists = lists_beside(rt, alloc, path)?;
     let mut out = StdSink::new(rt.stdout());
-    if let Some(path) = conf_of(alloc, words) {
-        let path = str::from_utf8(path.as_bytes()).unwrap_or("");
-        if let Some(file) = open_conf(rt, path, !words.iter().any(is_conf_option))? {
-            let lists = lists_beside(rt, alloc, path)?;
-            let mut conf = StdSource::new(file);
-            return Ok(run_maint(alloc, words, &mut conf, &lists, &mut out));
-        }
-    }
-    let mut nothing = StdSource::new(io::empty());
-    Ok(run_maint(alloc, words, &mut nothing, &[], &mut out))
+    let mut conf = StdSource::new(file);
+    Ok(run_maint(alloc, words, &mut conf, &lists, &mut out))
 }
 
-// The configuration's path, where the words ask for it to be read.
-fn conf_of(alloc: Global, words: &[Text]) -> Option<Text> {
-    match read_words(alloc, words) {
-        Ok(words) if words.command == Command::CheckConf => Some(words.conf),
-        _ => None,
-    }
+// A command of maintenance over the empty configuration; of other words what is wrong with them is printed.
+fn over_nothing(rt: &HostRuntime, words: &[Text]) -> u8 {
+    let mut out = StdSink::new(rt.stdout());
+    let mut nothing = StdSource::new(io::empty());
+    run_maint(rt.alloc(), words, &mut nothing, &[], &mut out)
 }
 
 fn is_conf_option(word: &Text) -> bool {

@@ -7,7 +7,7 @@ use Rattle.acng_conf.specs.Readings.{reading, after_lines, and_then, finished}
 use Rattle.acng_conf.specs.Settings.{defaults}
 use Rattle.acng_base.specs.Cuts.{pieces}
 use Rattle.acng_conf.specs.declared.fault.ListFile.{ListFile}
-use Rattle.acng_cli.specs.declared.said.Said.{Said}
+use Rattle.acng_cli.specs.declared.output.Output.{Output}
 use Rattle.acng_cli.specs.Maint.{IsEnough, of_conf}
 
 -- both are over the limit, and the bytes that count are the same
@@ -19,7 +19,7 @@ same_front bs ys lists long =
     (lt-ltb 4194304 (length bs) long ∙ sym over) (sym (take-append-le 4194304 bs ys within))
 
 -- what is said of the bytes that were read is said of the whole text
-pub enough : (a b : Option (List ℕ)) (bs : List ℕ) (lists : List ListFile) (said : Said) → Consumes a b bs → IsEnough bs b
+pub enough : (a b : Option (List ℕ)) (bs : List ℕ) (lists : List ListFile) (said : Output) → Consumes a b bs → IsEnough bs b
     → said ≡ of_conf (reading bs lists) → IfSome a (λ text. said ≡ of_conf (reading text lists))
 enough None b bs lists said consumed is h = tt
 enough (Some xs) None bs lists said consumed is h = absurd consumed

@@ -1,144 +1,130 @@
 -- What a run of `once` says, in each of its cases.
-use Rattle.std.proofs.Common.{◌≡◌, ℕ, ◌+◌, ◌≤◌, ◌⊎◌, inl, inr, Bool, true, List, Option, Some, None, IfSome, refl, ap, ◌∙◌, subst, arith}
-use Rattle.acng_base.specs.Answers.{Reading}
-use Rattle.acng_site.specs.declared.ask.Ask.{Ask}
-use Rattle.acng_site.specs.Honest.{IsHonest}
-use Rattle.acng_request.specs.FirstForm.{IsFirstForm, HasHead, BeginsHead, MayBecomeHead, NeverHead, url_of}
+use Rattle.std.proofs.Common.{◌≡◌, ℕ, ◌+◌, ◌≤◌, ◌⊎◌, inl, inr, List, [], ◌∷◌, Option, Some, None, Result, Ok, Err, IfSome, refl, ap, sym, ◌∙◌, subst, arith}
+use Rattle.std.specs.List.{Contains}
+use Rattle.std.proofs.lemmas.List.Elements.{Contains-get_or}
+use Rattle.acng_base.specs.declared.link.Link.{Ghosts as LinkGhosts}
+use Rattle.acng_site.specs.declared.site.Site.{Ghosts as SiteGhosts}
+use Rattle.acng_remap.specs.Readings.{reading}
+use Rattle.acng_remap.specs.declared.target.Target.{Target}
+use Rattle.acng_remap.specs.declared.target.Target.TheVariants.{File, Page}
+use Rattle.acng_remap.specs.declared.target.TargetFault.{TargetFault}
+use Rattle.acng_remap.specs.declared.target.TargetFault.TheVariants as fault
+use Rattle.acng_request.specs.Nexts.{Next, next, Asks, Refuses, Ends}
+use Rattle.acng_request.specs.declared.got.Request.{Request}
+use Rattle.acng_request.specs.declared.got.HeadFault.{HeadFault}
+use Rattle.acng_request.specs.declared.got.HeadFault.TheVariants.{BadHead, TooLarge, Method, HasBody}
+use Rattle.acng_cli.specs.declared.manner.Manner.{Manner}
 use Rattle.acng_cli.specs.declared.note.Note.{Note}
 use Rattle.acng_cli.specs.declared.note.Once.{Once}
-use Rattle.acng_cli.specs.declared.note.OnceStop.TheVariants as stop
-use Rattle.acng_cli.specs.Replies.{Reply, Sends, reply_to}
-use Rattle.acng_cli.specs.Runs.{answer_of, ask_of, RepliesTo}
-use Rattle.acng_cli.specs.Once.{Outside, Replies, EndsUnread, IsHindered, RefusesHead, AnswersAs, ServesRequests, SendsFileOf, RanOnce, file_of}
-use Rattle.acng_cli.proofs.Heads.{one_url}
-use Rattle.acng_cli.proofs.Fronts.{by_head_status, sends_front}
-use Rattle.acng_cli.proofs.Taken.{head_taken}
+use Rattle.acng_cli.specs.Lines.{line_of, head_line}
+use Rattle.acng_cli.specs.Replies.{Sends, reply_to, manner_of}
+use Rattle.acng_cli.specs.Runs.{answer_of, ask_of}
+use Rattle.acng_cli.specs.Ways.{empty, way_of, way_to, refusal_of}
+use Rattle.acng_cli.specs.Once.{Outside, AnswersWay, Answered, RefusesHead, EndsUnread, IsHindered, IsHonestHouse, RunsBy, Replied, AnswersOrLacks, SendsFileOf, RanOnce}
+use Rattle.acng_cli.proofs.Cases.{if_all, if_also}
+use Rattle.acng_cli.proofs.Fronts.{sends_front}
 
-pub if_all : (P : List ℕ → Type 0) → ((bytes : List ℕ) → P bytes) → (o : Option (List ℕ)) → IfSome o P
-if_all P each None = tt
-if_all P each (Some bytes) = each bytes
+-- no refusal has the status of a file
+head_other : (f : HeadFault) → (head_line f).status ≡ 200 → ⊥
+head_other BadHead e = omega arith
+head_other TooLarge e = omega arith
+head_other Method e = omega arith
+head_other HasBody e = omega arith
 
-pub if_also : (P Q : List ℕ → Type 0) → ((bytes : List ℕ) → P bytes → Q bytes) → (o : Option (List ℕ)) → IfSome o P → IfSome o Q
-if_also P Q each None h = tt
-if_also P Q each (Some bytes) h = each bytes h
+target_other : (f : TargetFault) → (line_of (refusal_of f)).status ≡ 200 → ⊥
+target_other fault.NoMemory e = omega arith
+target_other fault.Connect e = omega arith
+target_other fault.Tls e = omega arith
+target_other fault.BadTarget e = omega arith
+target_other fault.Query e = omega arith
+target_other (fault.BadPath f) e = omega arith
 
-module _ (tells : Bool) (sent : ℕ → Ask → List ℕ) (faulted : ℕ → Ask → Bool) (serves : List ℕ → List ℕ → Bool) (instance : ℕ → List ℕ → List ℕ)
-    (left : Option (List ℕ)) (old new : Outside) (once : Once) (later : old.faults ≤ new.faults) where
+module _ {S L : Type 0} (s : SiteGhosts S) (l : LinkGhosts L) (old new : Outside L) (once : Once)
+    (later : l.faults old.client ≤ l.faults new.client) where
   abbrev Ran : Type 0
-  Ran = RanOnce tells sent faulted serves instance left old new once
+  Ran = RanOnce s l old new once
 
-  -- the note of a reply has the reply's status
-  status_is : (reply : Reply) → Replies reply once old new → (note : Note) → once.note ≡ Some note → note.status ≡ reply.status
-  status_is reply r note noted = let same : r.note ≡ note = cc in subst (λ k. k.status ≡ reply.status) same r.sends.status
+  abbrev left : Option (List ℕ)
+  left = l.left old.client
 
-  hindered_status : IsHindered once old new → (note : Note) → once.note ≡ Some note → note.status ≡ 507
+  abbrev Runs : List ℕ → Type 0
+  Runs b = RunsBy s l (next b) once old new ⊎ IsHindered l once old new
+
+  hindered_status : IsHindered l once old new → (note : Note) → once.note ≡ Some note → note.status ≡ 507
   hindered_status (inl f) note noted = let none = f.noted in cc
-  hindered_status (inr l) note noted = status_is _ l.replies note noted
+  hindered_status (inr k) note noted =
+      let given = k.replied.noted in
+      let same : k.note ≡ note = cc in
+      subst (λ k. k.status ≡ 507) same k.lacks.sends.status
 
-  hindered_stop : IsHindered once old new → once.stop ≡ stop.ClientEnded → ⊥
-  hindered_stop (inl f) e = let is = f.stop in cc
-  hindered_stop (inr l) e = let is = l.replies.stop in cc
-
-  pub ran_hindered : IsHindered once old new → Ran
+  pub ran_hindered : IsHindered l once old new → Ran
   ran_hindered h = record {
-    breaks_off = if_all (λ b. MayBecomeHead b → EndsUnread once old new ⊎ IsHindered once old new) (λ b m. inr h) left;
-    bad_head = if_all (λ b. NeverHead b → RefusesHead once old new ⊎ IsHindered once old new) (λ b m. inr h) left;
-    asked = if_all _ (λ b host path rest k. (answer_of sent faulted old.next (url_of host path), λ t. refl, inr h)) left;
-    ended_only = λ e. absurd (hindered_stop h e);
-    refused_only = λ note noted s. let is = hindered_status h note noted in absurd (omega arith);
-    answered_only = λ note noted s. absurd (neither note s (hindered_status h note noted));
-    any = inr (inr (inr h));
+    by_bytes = if_all Runs (λ b. inr h) left;
+    any = inr h;
     later = later;
-    headline = λ t k u note noted s. let is = hindered_status h note noted in absurd (omega arith);
+    headline = λ house note noted e. let is = hindered_status h note noted in absurd (omega arith);
   }
-    where
-      neither : (note : Note) → (note.status ≡ 200) ⊎ (note.status ≡ 502) → note.status ≡ 507 → ⊥
-      neither note (inl s) is = omega arith
-      neither note (inr s) is = omega arith
 
   -- the client's link ended inside a head
-  pub ran_ended : EndsUnread once old new → IfSome left MayBecomeHead → IfSome left (λ b. BeginsHead b → ⊥) → IfSome left (λ b. NeverHead b → ⊥) → Ran
-  ran_ended e ended whole never = record {
-    breaks_off = if_all (λ b. MayBecomeHead b → EndsUnread once old new ⊎ IsHindered once old new) (λ b m. inl e) left;
-    bad_head = if_also (λ b. NeverHead b → ⊥) (λ b. NeverHead b → RefusesHead once old new ⊎ IsHindered once old new) (λ b n h. absurd (n h)) left never;
-    asked = if_also (λ b. BeginsHead b → ⊥) _ (λ b n host path rest h. absurd (n (host, path, rest, h))) left whole;
-    ended_only = λ s. ended;
-    refused_only = λ note noted s. let none = e.noted in cc;
-    answered_only = λ note noted s. let none = e.noted in cc;
-    any = inl e;
+  pub ran_ended : EndsUnread l once old new → IfSome left (λ b. next b ≡ Ends) → Ran
+  ran_ended e is = record {
+    by_bytes = if_also (λ b. next b ≡ Ends) Runs (λ b k. inl (subst (λ n. RunsBy s l n once old new) (sym k) e)) left is;
+    any = inl (Ends, e);
     later = later;
-    headline = λ t k u note noted s. let none = e.noted in cc;
+    headline = λ house note noted k. let none = e.noted in cc;
   }
 
   -- the head was refused
-  pub ran_refused : RefusesHead once old new → IfSome left NeverHead → IfSome left (λ b. BeginsHead b → ⊥) → IfSome left (λ b. MayBecomeHead b → ⊥) → Ran
-  ran_refused r never whole breaks = record {
-    breaks_off = if_also (λ b. MayBecomeHead b → ⊥) (λ b. MayBecomeHead b → EndsUnread once old new ⊎ IsHindered once old new) (λ b n h. absurd (n h)) left breaks;
-    bad_head = if_all (λ b. NeverHead b → RefusesHead once old new ⊎ IsHindered once old new) (λ b m. inl r) left;
-    asked = if_also (λ b. BeginsHead b → ⊥) _ (λ b n host path rest h. absurd (n (host, path, rest, h))) left whole;
-    ended_only = λ s. let is = r.replies.stop in cc;
-    refused_only = λ note noted s. never;
-    answered_only = λ note noted s. absurd (neither note s (status_is _ r.replies note noted));
-    any = inr (inl r);
+  pub ran_refused : (fault : HeadFault) → RefusesHead l fault once old new → IfSome left (λ b. next b ≡ Refuses fault) → Ran
+  ran_refused fault r is = record {
+    by_bytes = if_also (λ b. next b ≡ Refuses fault) Runs (λ b k. inl (subst (λ n. RunsBy s l n once old new) (sym k) r)) left is;
+    any = inl (Refuses fault, r);
     later = later;
-    headline = λ t k u note noted s. let is = status_is _ r.replies note noted in absurd (omega arith);
+    headline = λ house note noted e.
+        let given = r.replied.noted in
+        let same : r.note ≡ note = cc in
+        absurd (head_other fault (sym r.sends.status ∙ ap (λ k. k.status) same ∙ e));
   }
-    where
-      neither : (note : Note) → (note.status ≡ 200) ⊎ (note.status ≡ 502) → note.status ≡ 400 → ⊥
-      neither note (inl s) is = omega arith
-      neither note (inr s) is = omega arith
 
-  -- an attempt was made
-  module _ (host path : List ℕ) (form : IsFirstForm host path) (asked : IfSome left (λ b. (rest : List ℕ) × HasHead b host path rest))
-      (never : IfSome left (λ b. NeverHead b → ⊥)) (breaks : IfSome left (λ b. MayBecomeHead b → ⊥))
-      (r : Reading) (told : tells ≡ true → r ≡ answer_of sent faulted old.next (url_of host path)) (a : AnswersAs r once old new) where
-    note_status : (note : Note) → once.note ≡ Some note → note.status ≡ (reply_to old.next r).status
-    note_status note noted = status_is (reply_to old.next r) a.replies note noted
+  -- a request was answered
+  module _ (r : Request) (asked : IfSome left (λ b. (rest : List ℕ) × (next b ≡ Asks r rest))) where
+    abbrev m : Manner
+    m = manner_of r
 
-    not_400 : (note : Note) → once.note ≡ Some note → note.status ≡ 400 → ⊥
-    not_400 note noted s = cases (by_head_status old.next r r.head) (note_status note noted)
-      where
-        cases : ((reply_to old.next r).status ≡ 200) ⊎ ((reply_to old.next r).status ≡ 502) → note.status ≡ (reply_to old.next r).status → ⊥
-        cases (inl e) is = omega arith
-        cases (inr e) is = omega arith
-
-    sends_file : tells ≡ true → IsHonest sent faulted serves instance → ServesRequests serves → (note : Note) → once.note ≡ Some note → note.status ≡ 200 → SendsFileOf instance left note old new
-    sends_file t honest all note noted ok =
-        let url = url_of host path in
-        let answer = answer_of sent faulted old.next url in
-        let same : a.replies.note ≡ note = cc in
-        let is = told t in
-        let sends = subst (λ k. Sends (reply_to old.next k) a.replies.note old.written new.written old.faults new.faults) is a.replies.sends in
+    file_sent : IsHonestHouse s → (note : Note) → note.status ≡ 200 → (t : Result Target TargetFault) → reading empty r.method r.target ≡ t
+        → AnswersWay s l (way_to t) m note old new → SendsFileOf s l note old new
+    file_sent house note ok (Ok (File path [])) is a = let status = a.sends.status in absurd (omega arith)
+    file_sent house note ok (Ok (File path (url ∷ urls))) is a =
+        let n = old.next in
+        let serves = house.serves.served r.method r.target path url (url ∷ urls) is (Contains-get_or (url ∷ urls) 0 [] (omega arith)) in
+        let honest = house.honest.gives n (ask_of url) path serves in
+        let sends = subst (λ k. Sends l (reply_to n m k) note old.client new.client) (a.heard.told house.tells) a.sends in
         record {
-          host = host;
-          path = path;
-          form = form;
+          request = r;
           asked = asked;
-          sends = sends_front old.next answer note old.written new.written old.faults new.faults (instance old.next (file_of host path))
-              (honest.answers old.next (ask_of url) (file_of host path) (all host path form)) (head_taken (sent old.next (ask_of url)) _ _)
-              (subst (λ k. Sends (reply_to old.next answer) k old.written new.written old.faults new.faults) same sends) ok;
+          path = path;
+          origins = url ∷ urls;
+          target = is;
+          sends = sends_front l n m note old.client new.client (s.instance n path) (answer_of s n url)
+              (λ h k ok. let c = honest.whole h k ok in record { front = c.front; all = c.all }) ok sends;
         }
+    file_sent house note ok (Ok (Page query)) is a = let status = a.sends.status in absurd (omega arith)
+    file_sent house note ok (Err f) is a = absurd (target_other f (sym a.sends.status ∙ ok))
 
-    pub ran_answered : Ran
-    ran_answered = record {
-      breaks_off = if_also (λ b. MayBecomeHead b → ⊥) (λ b. MayBecomeHead b → EndsUnread once old new ⊎ IsHindered once old new) (λ b n h. absurd (n h)) left breaks;
-      bad_head = if_also (λ b. NeverHead b → ⊥) (λ b. NeverHead b → RefusesHead once old new ⊎ IsHindered once old new) (λ b n h. absurd (n h)) left never;
-      asked = if_also (λ b. (rest : List ℕ) × HasHead b host path rest) _
-          (λ b k host' path' rest' h. (r, λ t. told t ∙ ap (answer_of sent faulted old.next) (one_url b host path k.0 host' path' rest' k.1 h), inl a)) left asked;
-      ended_only = λ s. let is = a.replies.stop in cc;
-      refused_only = λ note noted s. absurd (not_400 note noted s);
-      answered_only = λ note noted s. if_also (λ b. (rest : List ℕ) × HasHead b host path rest) BeginsHead (λ b k. (host, path, k.0, k.1)) left asked;
-      any = inr (inr (inl (r, a)));
+    pub ran_answered : Answered s l r once old new → Ran
+    ran_answered a = record {
+      by_bytes = if_also (λ b. (rest : List ℕ) × (next b ≡ Asks r rest)) Runs
+          (λ b k. inl (subst (λ n. RunsBy s l n once old new) (sym k.1) a)) left asked;
+      any = inl (Asks r [], a);
       later = later;
-      headline = sends_file;
+      headline = λ house note noted e.
+          let given = a.replied.noted in
+          let same : a.note ≡ note = cc in
+          subst (λ k. SendsFileOf s l k old new) same
+          (file_sent house a.note (ap (λ k. k.status) same ∙ e) (reading empty r.method r.target) refl a.answers);
     }
 
-  -- an attempt was made, or memory was refused in it
-  pub ran_attempt : (host path : List ℕ) → IsFirstForm host path → IfSome left (λ b. (rest : List ℕ) × HasHead b host path rest)
-      → IfSome left (λ b. NeverHead b → ⊥) → IfSome left (λ b. MayBecomeHead b → ⊥)
-      → (note : Note) → once.stop ≡ stop.Replied → once.note ≡ Some note → new.next ≡ old.next + 1
-      → RepliesTo tells (answer_of sent faulted old.next (url_of host path)) old.next note old.written new.written old.faults new.faults → Ran
-  ran_attempt host path form asked never breaks note is noted drawn (r, told, inl sends) =
-      ran_answered host path form asked never breaks r told (record { replies = record { note = note; stop = is; noted = noted; sends = sends }; drawn = drawn })
-  ran_attempt host path form asked never breaks note is noted drawn (r, told, inr sends) =
-      ran_hindered (inr (record { replies = record { note = note; stop = is; noted = noted; sends = sends }; drawn = inr drawn }))
+    -- or memory was refused in it
+    pub answered : (note : Note) → Replied once note → AnswersOrLacks s l r note old new → Ran
+    answered note replied (inl a) = ran_answered (record { note = note; replied = replied; answers = a })
+    answered note replied (inr k) = ran_hindered (inr (record { note = note; replied = replied; lacks = k }))

@@ -1,8 +1,10 @@
 -- What comes of an answer, one event at a time, and what is left of its reading.
 use Rattle.std.specs.Prelude.{◌≡◌, ℕ, ◌+◌, ◌-◌, ◌<◌, ◌≤◌, Bool, true, not, List, ◌++◌, length, slice_range, Option, Some, None, IsSome, ⊤}
+use Rattle.acng_site.specs.declared.conn.Conn.{Ghosts as ConnGhosts}
 use Rattle.acng_base.specs.Heads.{Head as AnswerOf}
 use Rattle.acng_base.specs.Answers.{Reading, Outcome, Whole, Early, Open, Bad, nothing, after_head, after_body}
-use Rattle.acng_answer.specs.Reader.{State, rest, answer_head}
+use Rattle.acng_answer.specs.Blocks.{answer_head}
+use Rattle.acng_answer.specs.Reader.{State, rest}
 use Rattle.acng_answer.specs.declared.step.AnswerHead.{AnswerHead}
 use Rattle.acng_answer.specs.declared.step.Step.{Step}
 use Rattle.acng_answer.specs.declared.step.Step.TheVariants as step
@@ -40,15 +42,23 @@ pub record IsPending (p : Pending) (buf : List ℕ) : Type 0 where
   pub ordered : p.from ≤ p.to
   pub within : p.to ≤ length buf
 
+-- an answer on its way: its connection, its reader, and the buffer with the bytes that aren't used yet
+pub record Intake (C : Type 0) : Type 0 where
+  pub conn : C
+  pub reader : State
+  pub buf : List ℕ
+  pub pending : Pending
+
 -- what is left of the reading of an answer: what the reader makes of the bytes in the buffer and of those to come
-abbrev pub left_of : Bool → State → List ℕ → Pending → List ℕ → Reading
-left_of faulted reader buf p left = rest reader (not faulted) (slice_range buf p.from p.to ++ left)
+abbrev pub left_of : {C P : Type 0} → ConnGhosts C P → Intake C → Reading
+left_of c i = rest i.reader (not (c.faulted i.conn)) (slice_range i.buf i.pending.from i.pending.to ++ c.left i.conn)
 
 -- the event, where the connection tells: the old reading is made of what came and of what is left now
-abbrev pub Brings : Bool → Event → List ℕ → Option AnswerHead → Reading → Reading → Type 0
-Brings tells event.Head buf told old new = (h : AnswerOf) × (told ≡ Some (answer_head h)) × (tells ≡ true → old ≡ after_head h new)
-Brings tells (event.Body start stop) buf told old new = tells ≡ true → old ≡ after_body (slice_range buf start stop) new
-Brings tells (event.Ended e) buf told old new = tells ≡ true → old ≡ nothing (outcome_of e)
+abbrev pub Brings : {C P : Type 0} → ConnGhosts C P → Event → Intake C → Intake C → Type 0
+Brings c event.Head old new =
+    (h : AnswerOf) × (new.reader.head ≡ Some (answer_head h)) × (c.tells ≡ true → left_of c old ≡ after_head h (left_of c new))
+Brings c (event.Body start stop) old new = c.tells ≡ true → left_of c old ≡ after_body (slice_range new.buf start stop) (left_of c new)
+Brings c (event.Ended e) old new = c.tells ≡ true → left_of c old ≡ nothing (outcome_of e)
 
 -- a body's bytes lie in the buffer, and the reader has used them
 abbrev pub IsPart : Event → List ℕ → ℕ → ℕ → Type 0

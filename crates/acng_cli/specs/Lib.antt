@@ -1,8 +1,11 @@
 pub mod Events
+pub mod Framed
+pub mod Lines
 pub mod Maint
 pub mod Once
-pub mod Passes
+pub mod Relays
 pub mod Replies
 pub mod Runs
 pub mod Single
+pub mod Ways
 pub mod Words

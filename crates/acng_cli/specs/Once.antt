@@ -1,116 +1,149 @@
 -- What a run of `once` says: the reply to the bytes of the client and the answer of one attempt.
-use Rattle.std.specs.Prelude.{◌≡◌, ◌≤◌, ◌⊎◌, ℕ, ◌+◌, Bool, true, List, [], ◌∷◌, ◌++◌, length, take, Option, Some, None, IfSome}
+use Rattle.std.specs.Prelude.{◌≡◌, ◌≤◌, ◌⊎◌, ℕ, ◌+◌, ◌-◌, true, false, List, [], ◌++◌, length, take, Option, Some, None, Ok, IfSome}
+use Rattle.std.specs.List.{concat}
 use Rattle.std.specs.Io.KnownBytes.{Appends, Keeps}
+use Rattle.acng_base.specs.declared.link.Link.{Ghosts as LinkGhosts}
 use Rattle.acng_base.specs.Causes.{Rose}
-use Rattle.acng_base.specs.Answers.{Reading}
-use Rattle.acng_site.specs.declared.ask.Ask.{Ask}
+use Rattle.acng_site.specs.declared.site.Site.{Ghosts as SiteGhosts}
 use Rattle.acng_site.specs.Honest.{IsHonest}
-use Rattle.acng_request.specs.FirstForm.{IsFirstForm, HasHead, BeginsHead, MayBecomeHead, NeverHead, url_of}
+use Rattle.acng_remap.specs.Readings.{reading}
+use Rattle.acng_remap.specs.Origins.{ServesTargets}
+use Rattle.acng_remap.specs.declared.target.Target.TheVariants.{File}
+use Rattle.acng_request.specs.Nexts.{Next, next, Asks, Refuses, Ends}
 use Rattle.acng_request.specs.ReplyHeads.{head_text}
-use Rattle.acng_request.specs.declared.got.HeadFault.TheVariants.{BadHead}
+use Rattle.acng_request.specs.declared.got.Request.{Request}
+use Rattle.acng_request.specs.declared.got.HeadFault.{HeadFault}
+use Rattle.acng_request.specs.declared.reply.Framing.{Framing}
 use Rattle.acng_cli.specs.declared.note.Note.{Note}
+use Rattle.acng_cli.specs.declared.note.Cause.{Cause}
+use Rattle.acng_cli.specs.declared.note.Cause.TheVariants as cause
 use Rattle.acng_cli.specs.declared.note.Once.{Once}
 use Rattle.acng_cli.specs.declared.note.OnceStop.TheVariants as stop
-use Rattle.acng_cli.specs.declared.refusal.Refusal.TheVariants as refusal
-use Rattle.acng_cli.specs.Replies.{Reply, Sends, refused, reply_to, file_head}
-use Rattle.acng_cli.specs.Runs.{answer_of}
+use Rattle.acng_cli.specs.declared.manner.Manner.{Manner}
+use Rattle.acng_cli.specs.declared.way.Way.{Way}
+use Rattle.acng_cli.specs.declared.way.Way.TheVariants.{Attempt, Refusal}
+use Rattle.acng_cli.specs.Framed.{framed, last_text, carried}
+use Rattle.acng_cli.specs.Replies.{Sends, refused, reply_to, file_head, manner_of, plain_manner}
+use Rattle.acng_cli.specs.Runs.{answer_of, Reads}
+use Rattle.acng_cli.specs.Ways.{empty, way_of}
 
--- what a run changes outside: the bytes that the client's link took, where they are known, how often it failed, and the
--- number of the next attempt
-pub record Outside : Type 0 where
-  pub written : Option (List ℕ)
-  pub faults : ℕ
+-- what a run changes: the client's link, and the number of the next attempt
+pub record Outside (L : Type 0) : Type 0 where
+  pub client : L
   pub next : ℕ
+
+-- ---- the reply to a request
+
+-- one attempt was made, with the number that was next, and this is the reply to what it reads as
+pub record AnswersAt {S L : Type 0} (s : SiteGhosts S) (l : LinkGhosts L) (url : List ℕ) (m : Manner) (note : Note) (old new : Outside L) : Type 0 where
+  pub heard : Reads s old.next url
+  pub sends : Sends l (reply_to old.next m heard.reading) note old.client new.client
+  pub drawn : new.next ≡ old.next + 1
+
+-- the request is refused, and no attempt made
+pub record RefusesWay {L : Type 0} (l : LinkGhosts L) (m : Manner) (note : Note) (c : Cause) (old new : Outside L) : Type 0 where
+  pub sends : Sends l (refused m c) note old.client new.client
+  pub undrawn : new.next ≡ old.next
+
+abbrev pub AnswersWay : {S L : Type 0} → SiteGhosts S → LinkGhosts L → Way → Manner → Note → Outside L → Outside L → Type 0
+AnswersWay s l (Attempt url) m note old new = AnswersAt s l url m note old new
+AnswersWay s l (Refusal c) m note old new = RefusesWay l m note c old new
+
+-- memory was refused, at most one attempt drawn, and the reply says so
+pub record Lacks {L : Type 0} (l : LinkGhosts L) (note : Note) (old new : Outside L) : Type 0 where
+  pub manner : Manner
+  pub sends : Sends l (refused manner cause.NoMemory) note old.client new.client
+  pub drawn : (new.next ≡ old.next) ⊎ (new.next ≡ old.next + 1)
+
+abbrev pub AnswersOrLacks : {S L : Type 0} → SiteGhosts S → LinkGhosts L → Request → Note → Outside L → Outside L → Type 0
+AnswersOrLacks s l r note old new = AnswersWay s l (way_of r) (manner_of r) note old new ⊎ Lacks l note old new
 
 -- ---- how a run ends
 
--- the reply was made, or a front of it that the link broke off
-pub record Replies (reply : Reply) (once : Once) (old new : Outside) : Type 0 where
-  pub note : Note
+-- the run made this reply
+pub record Replied (once : Once) (note : Note) : Type 0 where
   pub stop : once.stop ≡ stop.Replied
   pub noted : once.note ≡ Some note
-  pub sends : Sends reply note old.written new.written old.faults new.faults
+
+-- the request was answered
+pub record Answered {S L : Type 0} (s : SiteGhosts S) (l : LinkGhosts L) (r : Request) (once : Once) (old new : Outside L) : Type 0 where
+  pub note : Note
+  pub replied : Replied once note
+  pub answers : AnswersWay s l (way_of r) (manner_of r) note old new
+
+-- the head was refused, and no attempt made
+pub record RefusesHead {L : Type 0} (l : LinkGhosts L) (fault : HeadFault) (once : Once) (old new : Outside L) : Type 0 where
+  pub note : Note
+  pub replied : Replied once note
+  pub sends : Sends l (refused plain_manner (cause.Head fault)) note old.client new.client
+  pub undrawn : new.next ≡ old.next
 
 -- the client ended before its request was whole: nothing is written, and no attempt made
-pub record EndsUnread (once : Once) (old new : Outside) : Type 0 where
+pub record EndsUnread {L : Type 0} (l : LinkGhosts L) (once : Once) (old new : Outside L) : Type 0 where
   pub stop : once.stop ≡ stop.ClientEnded
   pub noted : once.note ≡ None
-  pub kept : Keeps old.written new.written
+  pub kept : Keeps (l.written old.client) (l.written new.client)
   pub undrawn : new.next ≡ old.next
 
 -- the link failed before a request was read or refused: nothing is written, and no attempt made
-pub record FailsUnread (once : Once) (old new : Outside) : Type 0 where
+pub record FailsUnread {L : Type 0} (l : LinkGhosts L) (once : Once) (old new : Outside L) : Type 0 where
   pub stop : once.stop ≡ stop.ClientFault
   pub noted : once.note ≡ None
-  pub kept : Keeps old.written new.written
+  pub kept : Keeps (l.written old.client) (l.written new.client)
   pub undrawn : new.next ≡ old.next
-  pub rose : Rose old.faults new.faults
+  pub rose : Rose (l.faults old.client) (l.faults new.client)
 
--- memory was refused, at most one attempt drawn, and the reply says so
-pub record LacksMemory (once : Once) (old new : Outside) : Type 0 where
-  pub replies : Replies (refused refusal.NoMemory) once old new
-  pub drawn : (new.next ≡ old.next) ⊎ (new.next ≡ old.next + 1)
+-- memory was refused, and the reply says so
+pub record LacksMemory {L : Type 0} (l : LinkGhosts L) (once : Once) (old new : Outside L) : Type 0 where
+  pub note : Note
+  pub replied : Replied once note
+  pub lacks : Lacks l note old new
 
 -- the one way in which each other end may be missed: the link failed early, or memory was refused
-abbrev pub IsHindered : Once → Outside → Outside → Type 0
-IsHindered once old new = FailsUnread once old new ⊎ LacksMemory once old new
+abbrev pub IsHindered : {L : Type 0} → LinkGhosts L → Once → Outside L → Outside L → Type 0
+IsHindered l once old new = FailsUnread l once old new ⊎ LacksMemory l once old new
 
--- the head was refused, and no attempt made
-pub record RefusesHead (once : Once) (old new : Outside) : Type 0 where
-  pub replies : Replies (refused (refusal.Head BadHead)) once old new
-  pub undrawn : new.next ≡ old.next
-
--- one attempt was made, with the number that was next, and this is the reply to what it reads as
-pub record AnswersAs (r : Reading) (once : Once) (old new : Outside) : Type 0 where
-  pub replies : Replies (reply_to old.next r) once old new
-  pub drawn : new.next ≡ old.next + 1
+-- what a run does where the client's bytes ask this next
+abbrev pub RunsBy : {S L : Type 0} → SiteGhosts S → LinkGhosts L → Next → Once → Outside L → Outside L → Type 0
+RunsBy s l (Asks r rest) once old new = Answered s l r once old new
+RunsBy s l (Refuses fault) once old new = RefusesHead l fault once old new
+RunsBy s l Ends once old new = EndsUnread l once old new
 
 -- ---- the headline
 
--- the file of a request: HOST, `/` and PATH
-abbrev pub file_of : List ℕ → List ℕ → List ℕ
-file_of host path = host ++ 47 ∷ path
+-- what was written is a front of the text of a reply whose body is a front of the file, with `sent` bytes of it; to GET
+-- it is all of the file where the note is whole
+pub record SendsFrontOf {L : Type 0} (l : LinkGhosts L) (file : List ℕ) (m : Manner) (note : Note) (old new : L) : Type 0 where
+  pub how : Framing
+  pub pieces : List (List ℕ)
+  pub count : ℕ
+  pub written : Appends (l.written old) (l.written new) (take count (head_text (file_head how) [] ++ (framed how pieces ++ last_text how)))
+  pub sent : note.sent ≡ carried how pieces (count - length (head_text (file_head how) []))
+  pub front : take (length (concat pieces)) file ≡ concat pieces
+  pub whole : note.whole ≡ true → m.bare ≡ false → (concat pieces ≡ file) × (note.sent ≡ length file)
 
--- each URL of a request is a place of its file: so it is without a configuration
-abbrev pub ServesRequests : (List ℕ → List ℕ → Bool) → Type 0
-ServesRequests serves = (host path : List ℕ) → IsFirstForm host path → serves (url_of host path) (file_of host path) ≡ true
-
--- what was written is a front of a file's reply head and then the first `sent` bytes of the file, all of them where the
--- note is whole
-pub record SendsFrontOf (file : List ℕ) (note : Note) (old new : Option (List ℕ)) : Type 0 where
-  pub head : List ℕ
-  pub body : List ℕ
-  pub written : Appends old new (head ++ body)
-  pub is_head : (len : Option ℕ) × (take (length head) (head_text (file_head len) []) ≡ head)
-  pub sent : note.sent ≡ length body
-  pub front : take (length body) file ≡ body
-  pub whole : note.whole ≡ true → body ≡ file
-
--- the request whose file is sent: the client's bytes begin with its head, where they are known
-pub record SendsFileOf (instance : ℕ → List ℕ → List ℕ) (left : Option (List ℕ)) (note : Note) (old new : Outside) : Type 0 where
-  pub host : List ℕ
+-- the request whose file is sent: the client's bytes ask it, where they are known
+pub record SendsFileOf {S L : Type 0} (s : SiteGhosts S) (l : LinkGhosts L) (note : Note) (old new : Outside L) : Type 0 where
+  pub request : Request
+  pub asked : IfSome (l.left old.client) (λ bytes. (rest : List ℕ) × (next bytes ≡ Asks request rest))
   pub path : List ℕ
-  pub form : IsFirstForm host path
-  pub asked : IfSome left (λ bytes. (rest : List ℕ) × HasHead bytes host path rest)
-  pub sends : SendsFrontOf (instance old.next (file_of host path)) note old.written new.written
+  pub origins : List (List ℕ)
+  pub target : reading empty request.method request.target ≡ Ok (File path origins)
+  pub sends : SendsFrontOf l (s.instance old.next path) (manner_of request) note old.client new.client
+
+-- the premises of the headline: the site tells, holds what it says, and serves each file at its origins
+pub record IsHonestHouse {S : Type 0} (s : SiteGhosts S) : Type 0 where
+  pub tells : s.tells ≡ true
+  pub honest : IsHonest s
+  pub serves : ServesTargets empty s.serves
 
 -- ---- a run
 
--- `left` is the client's bytes, where they are known; the site's meanings hold where it tells
-pub record RanOnce (tells : Bool) (sent : ℕ → Ask → List ℕ) (faulted : ℕ → Ask → Bool) (serves : List ℕ → List ℕ → Bool) (instance : ℕ → List ℕ → List ℕ)
-    (left : Option (List ℕ)) (old new : Outside) (once : Once) : Type 0 where
-  -- each end comes where it should, unless the run is hindered
-  pub breaks_off : IfSome left (λ bytes. MayBecomeHead bytes → EndsUnread once old new ⊎ IsHindered once old new)
-  pub bad_head : IfSome left (λ bytes. NeverHead bytes → RefusesHead once old new ⊎ IsHindered once old new)
-  pub asked : IfSome left (λ bytes. (host path rest : List ℕ) → HasHead bytes host path rest →
-      (r : Reading) × (tells ≡ true → r ≡ answer_of sent faulted old.next (url_of host path)) × (AnswersAs r once old new ⊎ IsHindered once old new))
-  -- and only there
-  pub ended_only : once.stop ≡ stop.ClientEnded → IfSome left MayBecomeHead
-  pub refused_only : (note : Note) → once.note ≡ Some note → note.status ≡ 400 → IfSome left NeverHead
-  pub answered_only : (note : Note) → once.note ≡ Some note → (note.status ≡ 200) ⊎ (note.status ≡ 502) → IfSome left BeginsHead
+pub record RanOnce {S L : Type 0} (s : SiteGhosts S) (l : LinkGhosts L) (old new : Outside L) (once : Once) : Type 0 where
+  -- each end comes exactly where it should, unless the run is hindered
+  pub by_bytes : IfSome (l.left old.client) (λ bytes. RunsBy s l (next bytes) once old new ⊎ IsHindered l once old new)
   -- whatever link and site tell, it is one of these
-  pub any : EndsUnread once old new ⊎ RefusesHead once old new ⊎ ((r : Reading) × AnswersAs r once old new) ⊎ IsHindered once old new
-  pub later : old.faults ≤ new.faults
+  pub any : ((n : Next) × RunsBy s l n once old new) ⊎ IsHindered l once old new
+  pub later : l.faults old.client ≤ l.faults new.client
   -- the headline: a file's reply is a front of the file as the attempt found it, all of it where the note is whole
-  pub headline : tells ≡ true → IsHonest sent faulted serves instance → ServesRequests serves
-      → (note : Note) → once.note ≡ Some note → note.status ≡ 200 → SendsFileOf instance left note old new
+  pub headline : IsHonestHouse s → (note : Note) → once.note ≡ Some note → note.status ≡ 200 → SendsFileOf s l note old new

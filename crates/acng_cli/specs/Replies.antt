@@ -1,94 +1,99 @@
 -- The replies, and what a link takes of one.
-use Rattle.std.specs.Prelude.{◌≡◌, ◌⊎◌, ℕ, ◌-◌, ◌≤◌, Bool, true, false, List, [], ◌∷◌, ◌++◌, length, take, Option, Some, None, codes}
+use Rattle.std.specs.Prelude.{◌≡◌, ◌⊎◌, ℕ, ◌-◌, ◌≤◌, ◌==◌, Bool, true, false, List, [], ◌++◌, length, take, Option, Some, None, cond, codes, bytes_eq}
+use Rattle.std.specs.List.{concat}
 use Rattle.std.specs.Io.KnownBytes.{Appends}
+use Rattle.acng_base.specs.declared.link.Link.{Ghosts as LinkGhosts}
 use Rattle.acng_base.specs.Causes.{Rose}
 use Rattle.acng_base.specs.Heads.{Head as AnswerOf}
-use Rattle.acng_base.specs.Answers.{Reading, Outcome, Whole, Early, Open, Bad}
-use Rattle.acng_answer.specs.Reader.{answer_head}
+use Rattle.acng_base.specs.Answers.{Reading, Outcome, Whole, Early, Open, Bad, just}
+use Rattle.acng_base.specs.Framings.{stated_length}
+use Rattle.acng_head.specs.declared.head.Label.{Label}
+use Rattle.acng_head.specs.declared.head.Label.TheVariants.{Fetched}
 use Rattle.acng_request.specs.ReplyHeads.{head_text}
+use Rattle.acng_request.specs.declared.got.Request.{Request}
+use Rattle.acng_request.specs.declared.got.HeadFault.{HeadFault}
 use Rattle.acng_request.specs.declared.reply.ReplyHead.{ReplyHead}
 use Rattle.acng_request.specs.declared.reply.Framing.{Framing}
-use Rattle.acng_request.specs.declared.reply.Framing.TheVariants.{Length, ToEnd}
+use Rattle.acng_request.specs.declared.reply.Framing.TheVariants.{Length, Chunked, ToEnd}
 use Rattle.acng_request.specs.declared.reply.Kind.TheVariants.{File, Plain}
-use Rattle.acng_request.specs.declared.got.HeadFault.{HeadFault}
-use Rattle.acng_request.specs.declared.got.HeadFault.TheVariants.{BadHead, TooLarge, Method, HasBody}
-use Rattle.acng_cli.specs.declared.note.Label.{Label}
-use Rattle.acng_cli.specs.declared.note.Label.TheVariants.{Fetched}
 use Rattle.acng_cli.specs.declared.note.Shown.{Shown}
 use Rattle.acng_cli.specs.declared.note.Shown.TheVariants as shown
 use Rattle.acng_cli.specs.declared.note.Cause.{Cause}
 use Rattle.acng_cli.specs.declared.note.Cause.TheVariants as cause
 use Rattle.acng_cli.specs.declared.note.Note.{Note}
-use Rattle.acng_cli.specs.declared.refusal.Refusal.{Refusal}
-use Rattle.acng_cli.specs.declared.refusal.Refusal.TheVariants as refusal
+use Rattle.acng_cli.specs.declared.manner.Manner.{Manner}
+use Rattle.acng_cli.specs.Framed.{framed, end_text, AreSome, carried}
+use Rattle.acng_cli.specs.Lines.{Line, line_of}
 
--- a reply: its status and cause, where its body's bytes come from, the text of its head, its body, and whether that is
--- all of the body that the head promised
+-- a reply: its status and cause, where its body's bytes come from, the text of its head, how its body is framed, the
+-- body as far as it is sent, and whether that is all that the head promised
 pub record Reply : Type 0 where
   pub status : ℕ
   pub cause : Cause
   pub label : Option Label
   pub head : List ℕ
+  pub framing : Framing
   pub body : List ℕ
   pub whole : Bool
 
+-- no body follows the head of a reply to HEAD; the version is the request's
+abbrev pub manner_of : Request → Manner
+manner_of r = record { bare = bytes_eq r.method (codes "HEAD"); minor = r.minor }
+
+-- the manner of a reply to what isn't a request that was read
+abbrev pub plain_manner : Manner
+plain_manner = record { bare = false; minor = 1 }
+
+abbrev pub unless_bare : Manner → List ℕ → List ℕ
+unless_bare m body = cond m.bare [] body
+
 -- ---- refusals: a reply of one line
 
-abbrev pub head_fault_status : HeadFault → ℕ
-head_fault_status BadHead = 400
-head_fault_status TooLarge = 431
-head_fault_status Method = 405
-head_fault_status HasBody = 400
-
--- the words of a line, and LF
-abbrev pub line_text : List ℕ → List ℕ
-line_text words = words ++ 10 ∷ []
-
--- status and name
-abbrev pub head_fault_line : HeadFault → List ℕ
-head_fault_line BadHead = line_text (codes "400 BadHead")
-head_fault_line TooLarge = line_text (codes "431 TooLarge")
-head_fault_line Method = line_text (codes "405 Method")
-head_fault_line HasBody = line_text (codes "400 HasBody")
-
-abbrev pub shown_line : Shown → List ℕ
-shown_line (shown.Origin n) = line_text (codes "502 Origin")
-shown_line (shown.Early n) = line_text (codes "502 Early")
-shown_line (shown.Bad n at) = line_text (codes "502 Bad")
-
--- RFC 9110, section 15
-abbrev pub status_of : Refusal → ℕ
-status_of (refusal.Head fault) = head_fault_status fault
-status_of (refusal.Load why) = 502
-status_of refusal.NoMemory = 507
-
-abbrev pub cause_of : Refusal → Cause
-cause_of (refusal.Head fault) = cause.Head fault
-cause_of (refusal.Load why) = cause.Load why
-cause_of refusal.NoMemory = cause.NoMemory
-
--- the body: a line with the status and its name
-abbrev pub line_of : Refusal → List ℕ
-line_of (refusal.Head fault) = head_fault_line fault
-line_of (refusal.Load why) = shown_line why
-line_of refusal.NoMemory = line_text (codes "507 NoMemory")
-
 -- the head over a line of so many bytes
-abbrev pub line_head : ℕ → ℕ → ReplyHead
-line_head status len = record { status = status; framing = Length len; kind = Plain; part = None; total = None; modified = None; tag = None; close = true }
+abbrev pub line_head : Line → ReplyHead
+line_head k = record {
+  status = k.status;
+  framing = Length (length k.text);
+  kind = Plain;
+  part = None;
+  total = None;
+  modified = None;
+  tag = None;
+  close = true;
+}
 
-abbrev pub refused : Refusal → Reply
-refused r = record { status = status_of r; cause = cause_of r; label = None; head = head_text (line_head (status_of r) (length (line_of r))) []; body = line_of r; whole = true }
+abbrev pub line_reply : Manner → Cause → Line → Reply
+line_reply m c k = record {
+  status = k.status;
+  cause = c;
+  label = None;
+  head = head_text (line_head k) [];
+  framing = Length (length k.text);
+  body = unless_bare m k.text;
+  whole = true;
+}
+
+abbrev pub refused : Manner → Cause → Reply
+refused m c = line_reply m c (line_of c)
 
 -- ---- the reply to an answer
 
--- the framing of a file of a known length, or of one that ends with the connection
-abbrev pub framing_of : Option ℕ → Framing
-framing_of None = ToEnd
-framing_of (Some n) = Length n
+-- a known length is told; an unknown one is sent in chunks, to HTTP/1.0 to the connection's end
+abbrev pub framing_of : Option ℕ → ℕ → Framing
+framing_of (Some n) minor = Length n
+framing_of None minor = cond (minor == 0) ToEnd Chunked
 
-abbrev pub file_head : Option ℕ → ReplyHead
-file_head len = record { status = 200; framing = framing_of len; kind = File; part = None; total = None; modified = None; tag = None; close = true }
+abbrev pub file_head : Framing → ReplyHead
+file_head how = record {
+  status = 200;
+  framing = how;
+  kind = File;
+  part = None;
+  total = None;
+  modified = None;
+  tag = None;
+  close = true;
+}
 
 -- why attempt n gave no whole file. A connection that fails leaves its text open, and a whole answer has a head, so it
 -- is never shown.
@@ -111,48 +116,99 @@ is_whole Open = false
 is_whole Early = false
 is_whole (Bad at) = false
 
--- the answer's body is passed on, as far as it came, under a head with the length that the answer told
-abbrev pub passed : ℕ → Option ℕ → List ℕ → Outcome → Reply
-passed n len body outcome =
-    record { status = 200; cause = served_or_cut n outcome; label = Some (Fetched n n); head = head_text (file_head len) []; body = body; whole = is_whole outcome }
+-- the answer's body, as far as it came
+abbrev pub file_reply : ℕ → Framing → List ℕ → Outcome → Reply
+file_reply n how body outcome = record {
+  status = 200;
+  cause = served_or_cut n outcome;
+  label = Some (Fetched n n);
+  head = head_text (file_head how) [];
+  framing = how;
+  body = body;
+  whole = is_whole outcome;
+}
 
-abbrev pub by_head : ℕ → Reading → Option AnswerOf → Reply
-by_head n r None = refused (refusal.Load (shown_of n r.outcome))
-by_head n r (Some h) = passed n (answer_head h).length r.body r.outcome
+-- the head alone, as HEAD asks for it
+abbrev pub bare_reply : ℕ → Framing → Reply
+bare_reply n how = record {
+  status = 200;
+  cause = cause.Served;
+  label = Some (Fetched n n);
+  head = head_text (file_head how) [];
+  framing = Length 0;
+  body = [];
+  whole = true;
+}
 
--- the reply to what attempt n's answer reads as: without a head that is taken it is refused
-abbrev pub reply_to : ℕ → Reading → Reply
-reply_to n r = by_head n r r.head
+abbrev pub by_manner : ℕ → Framing → Reading → Bool → Reply
+by_manner n how r true = bare_reply n how
+by_manner n how r false = file_reply n how r.body r.outcome
+
+-- what is left of a reading behind its head
+abbrev pub behind_head : Reading → Reading
+behind_head r = just r.body r.outcome
+
+-- why a head of this status isn't a file's
+abbrev pub status_shown : ℕ → ℕ → Shown
+status_shown n status = cond (status == 404) (shown.Gone n) (cond (status == 410) (shown.Gone n) (shown.Status n status))
+
+-- the reply to what is left behind a head of this status, with this length
+abbrev pub by_status : ℕ → Manner → ℕ → Option ℕ → Reading → Reply
+by_status n m status len r =
+    cond (status == 200) (by_manner n (framing_of len m.minor) r m.bare) (refused m (cause.Load (status_shown n status)))
+
+abbrev pub by_head : ℕ → Manner → Reading → Option AnswerOf → Reply
+by_head n m r None = refused m (cause.Load (shown_of n r.outcome))
+by_head n m r (Some h) = by_status n m h.status (stated_length h) (behind_head r)
+
+-- the reply to what attempt n's answer reads as; the final head decides, as soon as it is whole
+abbrev pub reply_to : ℕ → Manner → Reading → Reply
+reply_to n m r = by_head n m r r.head
 
 -- ---- what the link takes
 
+-- the body in pieces, none of them empty; nothing else is open in a reply's text
+pub record Cutting (body : List ℕ) : Type 0 where
+  pub pieces : List (List ℕ)
+  pub some : AreSome pieces
+  pub cut : concat pieces ≡ body
+
+-- what follows the head
+abbrev pub body_text : Reply → List (List ℕ) → List ℕ
+body_text reply pieces = framed reply.framing pieces ++ end_text reply.framing reply.whole
+
+abbrev pub reply_text : Reply → List (List ℕ) → List ℕ
+reply_text reply pieces = reply.head ++ body_text reply pieces
+
 -- the whole reply went out
-pub record WroteAll (reply : Reply) (note : Note) (old new : Option (List ℕ)) : Type 0 where
+pub record WroteAll {L : Type 0} (l : LinkGhosts L) (reply : Reply) (note : Note) (old new : L) : Type 0 where
+  pub cutting : Cutting reply.body
   pub cause : note.cause ≡ reply.cause
   pub sent : note.sent ≡ length reply.body
   pub whole : note.whole ≡ reply.whole
-  pub bytes : Appends old new (reply.head ++ reply.body)
+  pub bytes : Appends (l.written old) (l.written new) (reply_text reply cutting.pieces)
 
--- the link failed after a front of the reply
-pub record WroteFront (reply : Reply) (note : Note) (old new : Option (List ℕ)) (before after : ℕ) : Type 0 where
+-- the link failed after a front of the reply, with so many bytes of its body
+pub record WroteFront {L : Type 0} (l : LinkGhosts L) (reply : Reply) (note : Note) (old new : L) : Type 0 where
+  pub cutting : Cutting reply.body
   pub cause : note.cause ≡ cause.ClientFault
   pub whole : note.whole ≡ false
-  pub rose : Rose before after
+  pub rose : Rose (l.faults old) (l.faults new)
   pub count : ℕ
-  pub few : count ≤ length (reply.head ++ reply.body)
-  pub sent : note.sent ≡ count - length reply.head
-  pub bytes : Appends old new (take count (reply.head ++ reply.body))
+  pub few : count ≤ length (reply_text reply cutting.pieces)
+  pub sent : note.sent ≡ carried reply.framing cutting.pieces (count - length reply.head)
+  pub bytes : Appends (l.written old) (l.written new) (take count (reply_text reply cutting.pieces))
 
 -- the note is that of the reply, of which the link took all, or a front where it failed
-pub record Sends (reply : Reply) (note : Note) (old new : Option (List ℕ)) (before after : ℕ) : Type 0 where
+pub record Sends {L : Type 0} (l : LinkGhosts L) (reply : Reply) (note : Note) (old new : L) : Type 0 where
   pub status : note.status ≡ reply.status
   pub label : note.label ≡ reply.label
-  pub written : WroteAll reply note old new ⊎ WroteFront reply note old new before after
+  pub written : WroteAll l reply note old new ⊎ WroteFront l reply note old new
 
 -- a front of two texts in a row was written, all of it unless the link failed
-pub record SendsBoth (head body : List ℕ) (sent : ℕ) (all : Bool) (old new : Option (List ℕ)) : Type 0 where
+pub record SendsBoth {L : Type 0} (l : LinkGhosts L) (head body : List ℕ) (sent : ℕ) (all : Bool) (old new : L) : Type 0 where
   pub count : ℕ
   pub few : count ≤ length (head ++ body)
   pub sent_is : sent ≡ count - length head
-  pub bytes : Appends old new (take count (head ++ body))
+  pub bytes : Appends (l.written old) (l.written new) (take count (head ++ body))
   pub whole : all ≡ true → count ≡ length (head ++ body)

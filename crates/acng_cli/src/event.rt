@@ -47,7 +47,9 @@ pub fn next_event<C: Conn>(
     requires room { 0 < length buf.old }
     requires pending { IsPending pending.old buf.old }
     requires limit { (reader.old.at ≤ reader.old.limit) × (reader.old.limit ≤ 2 ^ 41) }
-    ensures event { Brings C.tells result buf.new reader.new.head (left_of (C.faulted conn.old) reader.old buf.old pending.old (C.left conn.old)) (left_of (C.faulted conn.new) reader.new buf.new pending.new (C.left conn.new)) }
+    ensures event { Brings C.Conn result
+        (record { conn = conn.old; reader = reader.old; buf = buf.old; pending = pending.old })
+        (record { conn = conn.new; reader = reader.new; buf = buf.new; pending = pending.new }) }
     ensures part { IsPart result buf.new reader.old.at reader.new.at }
     ensures order { ComesInOrder result reader.old.head reader.new.head }
     ensures pending { IsPending pending.new buf.new }
@@ -86,8 +88,12 @@ fn refill<C: Conn>(
     requires room { 0 < length buf.old }
     requires pending { IsPending pending.old buf.old }
     requires limit { (reader.old.at ≤ reader.old.limit) × (reader.old.limit ≤ 2 ^ 41) }
-    ensures ended { IfSome result (λ end. C.tells ≡ true → left_of (C.faulted conn.old) reader.old buf.old pending.old (C.left conn.old) ≡ nothing (outcome_of end)) }
-    ensures same { IfNone result (C.tells ≡ true → left_of (C.faulted conn.old) reader.old buf.old pending.old (C.left conn.old) ≡ left_of (C.faulted conn.new) reader.new buf.new pending.new (C.left conn.new)) }
+    ensures ended { IfSome result (λ end. C.tells ≡ true →
+        left_of C.Conn (record { conn = conn.old; reader = reader.old; buf = buf.old; pending = pending.old })
+        ≡ nothing (outcome_of end)) }
+    ensures same { IfNone result (C.tells ≡ true →
+        left_of C.Conn (record { conn = conn.old; reader = reader.old; buf = buf.old; pending = pending.old })
+        ≡ left_of C.Conn (record { conn = conn.new; reader = reader.new; buf = buf.new; pending = pending.new })) }
     ensures some { IfNone result (pending.new.from < pending.new.to) }
     ensures place { (reader.new.at ≡ reader.old.at) × (reader.new.limit ≡ reader.old.limit) }
     ensures pending { IsPending pending.new buf.new }

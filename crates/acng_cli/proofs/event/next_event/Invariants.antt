@@ -12,8 +12,9 @@ invariant-loop-end g l = record {
   bound : l.reader.limit ≡ l.fn.reader.limit;
   later : l.fn.reader.at ≤ l.reader.at;
   head : l.reader.head ≡ l.fn.reader.head;
-  same : g.C.Conn.tells ≡ true → left_of (g.C.Conn.faulted l.fn.conn) l.fn.reader l.fn.buf l.fn.pending (g.C.Conn.left l.fn.conn)
-      ≡ left_of (g.C.Conn.faulted l.conn) l.reader l.buf l.pending (g.C.Conn.left l.conn);
+  same : g.C.Conn.tells ≡ true →
+      left_of g.C.Conn (record { conn = l.fn.conn; reader = l.fn.reader; buf = l.fn.buf; pending = l.fn.pending })
+      ≡ left_of g.C.Conn (record { conn = l.conn; reader = l.reader; buf = l.buf; pending = l.pending });
 }
 
 abbrev pub decreases-loop-end : goal.decreases-loop-end

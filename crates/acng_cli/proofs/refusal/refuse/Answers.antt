@@ -1,30 +1,36 @@
-use Rattle.std.proofs.Common.{◌≡◌, ◌∙◌, ap, refl, is_ok, OnErr, subst, take, length, None, true, false}
+use Rattle.std.proofs.Common.{◌≡◌, ◌∙◌, ap, refl, is_ok, OnErr, subst, take, length, None, true, false, []}
 use Rattle.acng_base.specs.Causes.{Rose}
 use Rattle.acng_request.specs.ReplyHeads.{head_text}
 use Rattle.acng_cli.specs.declared.note.Cause.TheVariants.{ClientFault}
-use Rattle.acng_cli.specs.Replies.{refused, line_head, status_of}
+use Rattle.acng_cli.specs.Lines.{line_of}
+use Rattle.acng_cli.specs.Replies.{line_head, unless_bare}
 use Rattle.acng_cli.proofs.Sendings.{sent_all, sent_front}
 use Rattle.acng_cli.proofs.refusal.refuse.Goals as goal
 
 pub returns-in-Ok-clause-sends : goal.returns-in-Ok-clause-sends
 returns-in-Ok-clause-sends g c =
-    let r = c.args.refusal in
+    let m = c.args.manner in
+    let k = line_of c.args.cause in
+    let sent = c.send_both-sent in
     let text = c.reply_head-len.ensures.text in
-    let head : take c.reply_head-len.result c.reply_head-len.new.out ≡ (refused r).head =
-    text.2 ∙ ap (λ h. head_text h text.0) (c.head_over.ensures ∙ ap (λ s. line_head s (length c.line-line.result.now)) c.status.ensures ∙ ap (λ l. line_head (status_of r) (length l)) c.line-line.ensures) in
-    sent_all (refused r) (record { status = c.status-in-Ok.result; cause = c.cause.result; label = None; sent = c.send_both-sent.result.0; whole = true })
-    (g.L.Link.written c.args.client.now) (g.L.Link.written c.send_both-sent.new.client) (g.L.Link.faults c.args.client.now) (g.L.Link.faults c.send_both-sent.new.client)
-    (take c.reply_head-len.result c.reply_head-len.new.out) c.line-line.result.now (head, c.line-line.ensures) c.status-in-Ok.ensures refl c.cause.ensures refl
-    (is_ok c.send_both-sent.result.1) (ap is_ok c.in-Ok.is) c.send_both-sent.ensures.bytes
+    let out = take c.reply_head-len.result c.reply_head-len.new.out in
+    let head : out ≡ head_text (line_head k) [] = text.2 ∙ ap (λ h. head_text h text.0) c.head_over.ensures in
+    let body : c.unless_bare.result.now ≡ unless_bare m k.text = c.unless_bare.ensures ∙ ap (unless_bare m) c.line-line.ensures in
+    sent_all g.L.Link c.args.client.now sent.new.client m c.args.cause k
+    (record { status = c.status-status.result; cause = c.args.cause; label = None; sent = sent.result.0; whole = true })
+    out c.unless_bare.result.now head body c.status-status.ensures refl refl refl (is_ok sent.result.1) (ap is_ok c.in-Ok.is) sent.ensures.bytes
 
 pub returns-in-Err-clause-sends : goal.returns-in-Err-clause-sends
 returns-in-Err-clause-sends g c =
-    let r = c.args.refusal in
+    let l = g.L.Link in
+    let m = c.args.manner in
+    let k = line_of c.args.cause in
+    let sent = c.send_both-sent in
     let text = c.reply_head-len.ensures.text in
-    let head : take c.reply_head-len.result c.reply_head-len.new.out ≡ (refused r).head =
-    text.2 ∙ ap (λ h. head_text h text.0) (c.head_over.ensures ∙ ap (λ s. line_head s (length c.line-line.result.now)) c.status.ensures ∙ ap (λ l. line_head (status_of r) (length l)) c.line-line.ensures) in
-    sent_front (refused r) (record { status = c.status-in-Err.result; cause = ClientFault; label = None; sent = c.send_both-sent.result.0; whole = false })
-    (g.L.Link.written c.args.client.now) (g.L.Link.written c.send_both-sent.new.client) (g.L.Link.faults c.args.client.now) (g.L.Link.faults c.send_both-sent.new.client)
-    (take c.reply_head-len.result c.reply_head-len.new.out) c.line-line.result.now (head, c.line-line.ensures) c.status-in-Err.ensures refl refl refl
-    (subst (λ o. OnErr o (Rose (g.L.Link.faults c.args.client.now) (g.L.Link.faults c.send_both-sent.new.client))) c.in-Err.is c.send_both-sent.ensures.cause.failed)
-    (is_ok c.send_both-sent.result.1) c.send_both-sent.ensures.bytes
+    let out = take c.reply_head-len.result c.reply_head-len.new.out in
+    let head : out ≡ head_text (line_head k) [] = text.2 ∙ ap (λ h. head_text h text.0) c.head_over.ensures in
+    let body : c.unless_bare.result.now ≡ unless_bare m k.text = c.unless_bare.ensures ∙ ap (unless_bare m) c.line-line.ensures in
+    let rose = subst (λ o. OnErr o (Rose (l.faults c.args.client.now) (l.faults sent.new.client))) c.in-Err.is sent.ensures.cause.failed in
+    sent_front l c.args.client.now sent.new.client m c.args.cause k
+    (record { status = c.status-status.result; cause = ClientFault; label = None; sent = sent.result.0; whole = false })
+    out c.unless_bare.result.now head body c.status-status.ensures refl refl refl rose (is_ok sent.result.1) sent.ensures.bytes
