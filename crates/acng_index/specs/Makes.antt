@@ -1,5 +1,5 @@
 -- What a taker of stanzas makes of those that may follow.
-use Rattle.std.specs.Prelude.{Bool, List, [], ◌++◌, cond, Option, Some, None, Result, Ok, Err}
+use Rattle.std.specs.Prelude.{Bool, List, ◌++◌, cond, Option, Some, None, Result, Ok, Err}
 use Rattle.std.specs.Option.{option_to_list}
 use Rattle.acng_stanza.specs.Stanzas.{Field}
 use Rattle.acng_index.specs.Texts.{and_then}

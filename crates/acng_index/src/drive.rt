@@ -1,7 +1,7 @@
 //! A text in pieces, whose stanzas are handed on as they are over.
 //!
 //! Between two pieces no stanza waits, so what stands in memory beside the text is the stanzas of one piece.
-ghost use Rattle.std.specs.Prelude.{◌≡◌, ◌≢◌, ◌≤◌, ◌<◌, [], ◌∷◌, List, ℕ, None, Some, OnOk, IfErr};
+ghost use Rattle.std.specs.Prelude.{◌≡◌, ◌≢◌, ◌≤◌, ◌<◌, [], ◌∷◌, List, None, Some, OnOk, IfErr};
 ghost use Rattle.acng_stanza.specs.Stanzas.{Field, reading_from};
 ghost use Rattle.acng_index.specs.Makes.{Made};
 ghost use Rattle.acng_index.specs.Drives.{Drains, DrivesPiece, DrivesRest};
@@ -19,7 +19,7 @@ pub trait Takes: Drop {
         ensures { OnOk result ((ss : List (List Field)) → makes self.new ss ≡ makes self.old (stanza ∷ ss)) };
 }
 
-const PIECE: usize = 65_536;
+const PIECE: usize = 16_384;
 
 /// Hands on each stanza of a text whose first line has this number, or answers its first refusal.
 pub fn read_stanzas<T: Takes>(

@@ -1,5 +1,4 @@
 //! The entries of a Release: a hash, a size and a path on each line of its list (Debian wiki, RepositoryFormat).
-ghost use Rattle.std.specs.Prelude.{◌≡◌};
 ghost use Rattle.acng_base.specs.Fields.{length_of};
 ghost use Rattle.acng_base.specs.Cuts.{pieces, words};
 ghost use Rattle.acng_index.specs.Texts.{hash_of, or_refuse};

@@ -1,7 +1,6 @@
 //! The frame of an InRelease: the text inside a signature (RFC 9580, section 7).
 ghost use Rattle.std.specs.Prelude.{◌≡◌, ◌≤◌, ◌<◌, ◌+◌, ◌++◌, [], ◌∷◌, OnOk, MatchOption, false, length, drop};
 ghost use Rattle.acng_base.specs.Cuts.{is_empty};
-ghost use Rattle.acng_stanza.specs.Stanzas.{trimmed};
 ghost use Rattle.acng_index.specs.Frames.{framed, hashes, inside, is_line, plain_line, lines_of};
 ghost use Rattle.acng_index.specs.Cuts.{GivesFramed, HasLine, HasHashLine, begins_hash};
 ghost use Rattle.acng_index.specs.Gives.{GivesItems};

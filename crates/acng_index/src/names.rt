@@ -1,5 +1,5 @@
 //! The names of a list of packages, taken stanza by stanza.
-ghost use Rattle.std.specs.Prelude.{◌≡◌, [], Ok, Err, IfOk, IfErr};
+ghost use Rattle.std.specs.Prelude.{◌≡◌, [], Ok, Err};
 ghost use Rattle.acng_index.specs.Makes.{so_far};
 
 use crate::drive::Takes;

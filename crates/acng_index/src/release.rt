@@ -1,5 +1,5 @@
 //! What a Release lists.
-ghost use Rattle.std.specs.Prelude.{◌≡◌, codes};
+ghost use Rattle.std.specs.Prelude.{◌≡◌};
 ghost use Rattle.std.specs.Option.{option_copied};
 ghost use Rattle.acng_index.specs.Releases.{is_yes, release_of};
 ghost use Rattle.acng_index.specs.Gives.{Gives};

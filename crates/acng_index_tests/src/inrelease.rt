@@ -1,7 +1,7 @@
 //! Releases inside a signature. Expected values are by hand, from the Debian wiki's page on repository formats,
 //! and RFC 9580, section 7.
 
-use crate::print::{expect_release, long};
+use crate::print::{expect, long, print_release};
 use acng_index::{IndexFault, read_inrelease};
 use acng_stanza::StanzaFault;
 use std::test::Fail;
@@ -26,8 +26,8 @@ fn the_text_inside_a_frame_is_a_release(rt: HostRuntime) -> Result<(), Fail> {
     ];
     for (short, print) in rows {
         let text = long(rt.alloc(), short)?;
-        let found = read_inrelease(rt.alloc(), &text);
-        expect_release(&rt, rt.alloc(), short, found, Ok(print))?;
+        let found = print_release(rt.alloc(), read_inrelease(rt.alloc(), &text))?;
+        expect(&rt, short, found, Ok(print));
     }
     Ok(())
 }
@@ -87,8 +87,8 @@ fn a_broken_frame_is_refused_at_its_line(rt: HostRuntime) -> Result<(), Fail> {
     ];
     for (short, fault) in rows {
         let text = long(rt.alloc(), short)?;
-        let found = read_inrelease(rt.alloc(), &text);
-        expect_release(&rt, rt.alloc(), short, found, Err(fault))?;
+        let found = print_release(rt.alloc(), read_inrelease(rt.alloc(), &text))?;
+        expect(&rt, short, found, Err(fault));
     }
     Ok(())
 }

@@ -1,6 +1,6 @@
 //! Lists of packages. Expected values are by hand, from the Debian wiki's page on repository formats.
 
-use crate::print::{expect_names, long};
+use crate::print::{expect, long, print_names};
 use acng_index::{IndexFault, read_packages};
 use acng_stanza::StanzaFault;
 use std::test::Fail;
@@ -33,8 +33,8 @@ fn a_list_names_its_files(rt: HostRuntime) -> Result<(), Fail> {
     ];
     for (short, print) in rows {
         let text = long(rt.alloc(), short)?;
-        let found = read_packages(rt.alloc(), &text);
-        expect_names(&rt, rt.alloc(), short, found, Ok(print))?;
+        let found = print_names(rt.alloc(), read_packages(rt.alloc(), &text))?;
+        expect(&rt, short, found, Ok(print));
     }
     Ok(())
 }
@@ -103,8 +103,8 @@ fn a_list_is_refused_by_its_first_fault(rt: HostRuntime) -> Result<(), Fail> {
     ];
     for (short, fault) in rows {
         let text = long(rt.alloc(), short)?;
-        let found = read_packages(rt.alloc(), &text);
-        expect_names(&rt, rt.alloc(), short, found, Err(fault))?;
+        let found = print_names(rt.alloc(), read_packages(rt.alloc(), &text))?;
+        expect(&rt, short, found, Err(fault));
     }
     Ok(())
 }

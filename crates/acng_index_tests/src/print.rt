@@ -26,8 +26,15 @@ pub fn long(alloc: Global, short: &[u8]) -> Result<Vec<u8>, Fail> {
     Ok(text)
 }
 
+/// What an index reads as, in print, or its refusal.
+pub type Printed = Result<Vec<u8>, IndexFault>;
+
 /// Each entry as `FIRST:SIZE:PATH;` with the hash's first byte, and `+` where files can be had by their hashes.
-pub fn print_release(alloc: Global, release: &Release) -> Result<Vec<u8>, Fail> {
+pub fn print_release(alloc: Global, found: Result<Release, IndexFault>) -> Result<Printed, Fail> {
+    let release = match found {
+        Ok(release) => release,
+        Err(fault) => return Ok(Err(fault)),
+    };
     let mut out = Vec::new(alloc);
     for entry in release.entries() {
         let numbers = format!(in alloc; "{}:{}:", entry.hash.0[0], entry.size)?;
@@ -38,11 +45,15 @@ pub fn print_release(alloc: Global, release: &Release) -> Result<Vec<u8>, Fail> 
     if release.by_hash() {
         out.push(b'+')?;
     }
-    Ok(out)
+    Ok(Ok(out))
 }
 
 /// Each name as `PATH:SIZE:FIRST;` with the hash's first byte; what a list doesn't tell is left out.
-pub fn print_names(alloc: Global, names: &Names) -> Result<Vec<u8>, Fail> {
+pub fn print_names(alloc: Global, found: Result<Names, IndexFault>) -> Result<Printed, Fail> {
+    let names = match found {
+        Ok(names) => names,
+        Err(fault) => return Ok(Err(fault)),
+    };
     let mut out = Vec::new(alloc);
     for named in names.list() {
         out.extend_from_slice(named.path.as_bytes())?;
@@ -56,45 +67,15 @@ pub fn print_names(alloc: Global, names: &Names) -> Result<Vec<u8>, Fail> {
         }
         out.push(b';')?;
     }
-    Ok(out)
+    Ok(Ok(out))
 }
 
-/// That a Release reads as it is to.
-pub fn expect_release(
-    rt: &impl Abort,
-    alloc: Global,
-    text: &[u8],
-    found: Result<Release, IndexFault>,
-    wanted: Result<&[u8], IndexFault>,
-) -> Result<(), Fail> {
+/// That a text reads as it is to.
+pub fn expect(rt: &impl Abort, text: &[u8], found: Printed, wanted: Result<&[u8], IndexFault>) {
     match (found, wanted) {
-        (Ok(release), Ok(print)) => {
-            let printed = print_release(alloc, &release)?;
-            assert_eq!(rt; printed.as_slice(), print, "{text:?}");
-        }
-        (Err(fault), Err(refusal)) => assert_eq!(rt; fault, refusal, "{text:?}"),
+        (Ok(print), Ok(wanted)) => assert_eq!(rt; print.as_slice(), wanted, "{text:?}"),
+        (Err(fault), Err(wanted)) => assert_eq!(rt; fault, wanted, "{text:?}"),
         (Ok(_), Err(_)) => panic!(rt; "{text:?} is read"),
         (Err(fault), Ok(_)) => panic!(rt; "{text:?} is refused by {fault:?}"),
     }
-    Ok(())
-}
-
-/// That a list of packages reads as it is to.
-pub fn expect_names(
-    rt: &impl Abort,
-    alloc: Global,
-    text: &[u8],
-    found: Result<Names, IndexFault>,
-    wanted: Result<&[u8], IndexFault>,
-) -> Result<(), Fail> {
-    match (found, wanted) {
-        (Ok(names), Ok(print)) => {
-            let printed = print_names(alloc, &names)?;
-            assert_eq!(rt; printed.as_slice(), print, "{text:?}");
-        }
-        (Err(fault), Err(refusal)) => assert_eq!(rt; fault, refusal, "{text:?}"),
-        (Ok(_), Err(_)) => panic!(rt; "{text:?} is read"),
-        (Err(fault), Ok(_)) => panic!(rt; "{text:?} is refused by {fault:?}"),
-    }
-    Ok(())
 }

@@ -1,6 +1,6 @@
 //! Releases. Expected values are by hand, from the Debian wiki's page on repository formats.
 
-use crate::print::{expect_release, long};
+use crate::print::{expect, long, print_release};
 use acng_index::{IndexFault, read_release};
 use acng_stanza::StanzaFault;
 use std::test::Fail;
@@ -39,8 +39,8 @@ fn a_release_lists_its_entries(rt: HostRuntime) -> Result<(), Fail> {
     ];
     for (short, print) in rows {
         let text = long(rt.alloc(), short)?;
-        let found = read_release(rt.alloc(), &text);
-        expect_release(&rt, rt.alloc(), short, found, Ok(print))?;
+        let found = print_release(rt.alloc(), read_release(rt.alloc(), &text))?;
+        expect(&rt, short, found, Ok(print));
     }
     Ok(())
 }
@@ -95,8 +95,8 @@ fn a_release_is_refused_by_its_first_fault(rt: HostRuntime) -> Result<(), Fail> 
     ];
     for (short, fault) in rows {
         let text = long(rt.alloc(), short)?;
-        let found = read_release(rt.alloc(), &text);
-        expect_release(&rt, rt.alloc(), short, found, Err(fault))?;
+        let found = print_release(rt.alloc(), read_release(rt.alloc(), &text))?;
+        expect(&rt, short, found, Err(fault));
     }
     Ok(())
 }

@@ -1,7 +1,7 @@
 -- Fields in one buffer: what is written behind them leaves them as they were, but for the end of the last value.
 use Rattle.std.proofs.Common.{◌≡◌, ℕ, zero, suc, ◌+◌, ◌-◌, ◌<◌, ◌≤◌, List, [], ◌∷◌, ◌++◌, Some, option_map, length, take, drop, get_or, refl, sym, ap, ◌∙◌, subst, arith, length-append, append_assoc}
 use Rattle.std.proofs.lemmas.List.{drop-append-le, take-append-le, length-drop, take_rest, take_all, drop_at}
-use Rattle.acng_stanza.specs.Stanzas.{Field, go_on, longer, nth}
+use Rattle.acng_stanza.specs.Stanzas.{Field, go_on, nth}
 use Rattle.acng_stanza.specs.Places.{next_start, part, field_at, fields_in, AreInOrder, stop_of}
 use Rattle.acng_stanza.specs.declared.stanza.Place.{Place}
 

@@ -1,7 +1,7 @@
 -- What the calls on a reader do.
 use Rattle.std.specs.Prelude.{◌≡◌, ◌≢◌, ℕ, List, [], ◌∷◌, ◌++◌, Option, Some, None, Result, Ok, Err}
 use Rattle.acng_stanza.specs.Stanzas.{Field, refused, ahead}
-use Rattle.acng_stanza.specs.Readers.{Lined, Reader, after, rest, all_of}
+use Rattle.acng_stanza.specs.Readers.{Lined, Reader, after, rest}
 use Rattle.acng_stanza.specs.declared.fault.StanzaFault.{StanzaFault}
 use Rattle.acng_stanza.specs.declared.fault.StanzaFault.TheVariants.{NoMemory}
 

@@ -90,8 +90,9 @@ impl Open {
         ensures fields { result ≡ self.old.fields }
         ensures new { self.new ≡ record { fields = []; size = 0; line = self.old.line } }
     {
+        let next = self.stanza.successor(alloc);
         self.size = 0;
-        mem::replace(&mut self.stanza, Stanza::new(alloc))
+        mem::replace(&mut self.stanza, next)
     }
 
     // The fields with a line that isn't empty.

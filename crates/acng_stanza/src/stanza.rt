@@ -3,9 +3,8 @@
 //! Names and values stand one after another in one buffer, without anything between them; a place tells where a name
 //! begins, where its value begins, and the line. A value ends where the next name begins, or with the buffer. So a
 //! field takes no memory of its own, and the last value goes on by what is written behind it.
-ghost use Rattle.std.specs.Prelude.{◌≡◌, ◌==◌, ◌<◌, ◌≤◌, [], ◌∷◌, ◌++◌, List, OnOk, Some, IfSome, option_map, length, bytes_eq, slice_index_or};
+ghost use Rattle.std.specs.Prelude.{◌≡◌, ◌==◌, ◌<◌, ◌≤◌, [], ◌∷◌, ◌++◌, List, OnOk, Some, IfSome, option_map, length};
 ghost use Rattle.std.specs.Option.{option_copied};
-ghost use Rattle.std.specs.Str.{str_to_ascii_lowercase};
 ghost use Rattle.acng_stanza.specs.Stanzas.{Field, go_on, field, nth, value_of, is_named};
 ghost use Rattle.acng_stanza.specs.Places.{part, stop_of};
 
@@ -57,6 +56,16 @@ impl Stanza {
         Stanza {
             bytes: Vec::new(alloc),
             places: Vec::new(alloc),
+        }
+    }
+
+    /// No field, with about as much room as this stanza took, where memory is there: those of a text are alike.
+    pub(crate) fn successor(&self, alloc: Global) -> Stanza
+        ensures { result ≡ [] }
+    {
+        Stanza {
+            bytes: room(alloc, self.bytes.len()),
+            places: room(alloc, self.places.len()),
         }
     }
 
@@ -146,6 +155,16 @@ impl Stanza {
             }
         }
         None
+    }
+}
+
+// No item, with room for so many and a few more, or none where memory was refused.
+fn room<T: Drop>(alloc: Global, count: usize) -> Vec<T>
+    ensures { result.items ≡ [] }
+{
+    match Vec::with_capacity(alloc, count.saturating_add(count / 16)) {
+        Ok(items) => items,
+        Err(_) => Vec::new(alloc),
     }
 }
 

@@ -1,4 +1,4 @@
-use Rattle.std.proofs.Common.{◌≡◌, ◌≤◌, ◌+◌, ◌++◌, [], ◌∷◌, ℕ, List, length, sym, ap, ◌∙◌, subst, arith, length-append}
+use Rattle.std.proofs.Common.{◌≡◌, ◌+◌, ◌++◌, [], ◌∷◌, List, length, sym, ap, ◌∙◌, subst, arith, length-append}
 use Rattle.acng_stanza.specs.Stanzas.{Field}
 use Rattle.acng_stanza.specs.Places.{AreInOrder, fields_in}
 use Rattle.acng_stanza.specs.declared.stanza.Place.{Place}

@@ -1,6 +1,6 @@
-use Rattle.std.proofs.Common.{◌≡◌, ◌≤◌, ◌<◌, ◌+◌, ◌++◌, [], ◌∷◌, ℕ, List, Some, length, sym, ap, ◌∙◌, subst, arith, length-append, append_assoc}
+use Rattle.std.proofs.Common.{◌≡◌, ◌<◌, ◌+◌, ◌++◌, [], ◌∷◌, List, Some, length, sym, ap, ◌∙◌, subst, arith, length-append, append_assoc}
 use Rattle.acng_stanza.specs.Stanzas.{Field, go_on}
-use Rattle.acng_stanza.specs.Places.{AreInOrder, fields_in}
+use Rattle.acng_stanza.specs.Places.{fields_in}
 use Rattle.acng_stanza.proofs.Places.{in_order_more, go_on_some}
 use Rattle.acng_stanza.proofs.stanza.Stanza.go_on.Goals as goal
 

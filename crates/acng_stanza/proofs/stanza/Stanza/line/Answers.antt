@@ -1,4 +1,4 @@
-use Rattle.std.proofs.Common.{◌≡◌, ◌<◌, List, length, sym, ap, ◌∙◌, arith}
+use Rattle.std.proofs.Common.{List, sym, ap, ◌∙◌, arith}
 use Rattle.acng_stanza.specs.Stanzas.{Field, nth}
 use Rattle.acng_stanza.proofs.Places.{is_there, stands_at}
 use Rattle.acng_stanza.proofs.stanza.Stanza.line.Goals as goal

@@ -1,4 +1,4 @@
-use Rattle.std.proofs.Common.{◌≡◌, length, arith, refl}
+use Rattle.std.proofs.Common.{arith, refl}
 use Rattle.acng_stanza.proofs.Places.{count_of}
 use Rattle.acng_stanza.proofs.stanza.Stanza.place_of.Goals as goal
 

@@ -1,4 +1,4 @@
-use Rattle.std.proofs.Common.{◌≡◌, ◌≤◌, drop, length}
+use Rattle.std.proofs.Common.{◌≡◌, drop, length}
 use Rattle.acng_stanza.specs.Stanzas.{field}
 use Rattle.acng_stanza.proofs.stanza.Stanza.place_of.Given as goal
 

@@ -1,4 +1,4 @@
-use Rattle.std.proofs.Common.{◌≡◌, ◌<◌, ◌≤◌, ℕ, List, length, sym, ap, ◌∙◌, subst, arith}
+use Rattle.std.proofs.Common.{◌≡◌, ◌≤◌, ℕ, List, length, sym, ap, ◌∙◌, subst, arith}
 use Rattle.acng_stanza.specs.Stanzas.{Field, nth}
 use Rattle.acng_stanza.specs.Places.{part, stop_of}
 use Rattle.acng_stanza.proofs.Places.{is_there, stands_at, stop_is}
