@@ -1,5 +1,5 @@
 # `make run` builds the proved program and runs its main job once; `make test` is what `.ci/run` calls.
-.PHONY: run test
+.PHONY: run test pictures
 
 run:
 	bash tests/run_once.sh
@@ -8,3 +8,9 @@ test:
 	rt ci
 	bash tests/loopback.sh
 	bash tests/check_conf.sh
+	bash tests/folder_syncs.sh
+	bash tests/debian_index.sh
+
+# The pictures of docs/ARCHITECTURE.md, drawn by Graphviz from the text beside them.
+pictures:
+	for picture in layers request; do dot -Tsvg docs/pictures/$$picture.dot -o docs/pictures/$$picture.svg || exit 1; done
