@@ -1,13 +1,50 @@
 //! Origins over memory.
-ghost use Rattle.std.specs.Prelude.{◌&&◌, true, false, [], ◌∷◌, bytes_eq, codes};
+ghost use Rattle.std.specs.Prelude.{◌<◌, ◌&&◌, true, false, [], ◌∷◌, bytes_eq, codes, IfSome};
+ghost use Rattle.acng_base.specs.Moments.{moment_limit};
 
 use crate::asks::{outcome, plain_ask, read_all, rule};
 use acng_base::{Moment, Tag, Text};
-use acng_site::{Dial, Gate, MemoryOrigin, NoGate, Origin, Rule, Site, Untold};
+use acng_site::{Ask, Dial, Gate, MemoryOrigin, NoGate, Origin, Rule, Site, Untold};
+use std::alloc::Global;
 use std::sync::Arc;
 use std::sync::atomic::{AtomicU64, Ordering};
 use std::test::Fail;
 
+// The rows of a table are one text, cut at `|`: URL, place and attempt; the bytes; `f` where a fault ends them.
+const ANSWERS: &str = "\
+http://a/f 0 0^^f|\
+http://a/f 0 1^abcdefghij^|\
+http://a/f 0 2^abcdefghij^|\
+http://a/f 0 3^late^f|\
+http://a/f 0 5^^f|\
+http://a/f 6 1^ghij^|\
+http://a/f 5 1^^f|\
+http://a/g 0 1^^f|\
+http://a/ 0 1^^f";
+
+// Whether a row of them holds, with reads of so many bytes.
+fn holds(alloc: Global, rules: &[Rule], row: &str, cut: usize) -> Option<bool> {
+    let mut fields = row.split('^');
+    let mut words = fields.next()?.split(' ');
+    let url = words.next()?;
+    let from = words.next()?.parse::<u64>().ok()?;
+    let attempt = words.next()?.parse::<u64>().ok()?;
+    if cut == 0 || attempt > 9 {
+        return None;
+    }
+    let (origin, mut right) = MemoryOrigin::<Untold, NoGate>::start(
+        alloc, rules, cut, NoGate,
+    ).ok()?;
+    right.skip_to(attempt);
+    let ask = plain_ask(alloc, url.as_bytes(), from).ok()?;
+    let (got, slip) = outcome(alloc, &origin, right.draw(), &ask).ok()?;
+    let bytes = fields.next()?;
+    let faults = fields.next()? == "f";
+    Some(got.as_slice() == bytes.as_bytes() && slip == faults.then_some(attempt))
+}
+
+// Before the first attempt of a rule and after the last one nothing answers; where two rules are for an attempt, the first
+// one does; a fault comes at the first read where there are no bytes.
 #[test]
 fn the_first_rule_for_the_ask_answers_in_its_attempts(rt: HostRuntime) -> Result<(), Fail> {
     let alloc = rt.alloc();
@@ -17,34 +54,11 @@ fn the_first_rule_for_the_ask_answers_in_its_attempts(rt: HostRuntime) -> Result
         rule(alloc, b"http://a/f", 6, (0, 9), b"ghij", false)?,
         rule(alloc, b"http://a/g", 0, (0, 9), b"", true)?,
     ];
-    for (url, from, attempt, bytes, faults) in [
-        ("http://a/f", 0, 0, "", true), // before the first attempt of a rule
-        ("http://a/f", 0, 1, "abcdefghij", false),
-        ("http://a/f", 0, 2, "abcdefghij", false), // both rules are for it
-        ("http://a/f", 0, 3, "late", true),
-        ("http://a/f", 0, 5, "", true), // after the last one
-        ("http://a/f", 6, 1, "ghij", false),
-        ("http://a/f", 5, 1, "", true),
-        ("http://a/g", 0, 1, "", true), // the fault comes at the first read
-        ("http://a/", 0, 1, "", true),
-    ] {
+    for row in ANSWERS.split('|') {
         for cut in [1, 2, 4096] {
-            assert!(rt; cut >= 1 && attempt < 10);
-            let (origin, mut right) = MemoryOrigin::<Untold, NoGate>::start(
-                alloc, &rules, cut, NoGate,
-            )?;
-            right.skip_to(attempt);
-            let ask = plain_ask(alloc, url.as_bytes(), from)?;
-            let (got, slip) = outcome(alloc, &origin, right.draw(), &ask)?;
-            assert_eq!(rt;
-                got.as_slice(),
-                bytes.as_bytes(),
-                "{url} {from} {attempt} by {cut}"
-            );
-            assert_eq!(rt;
-                slip,
-                faults.then_some(attempt),
-                "{url} {from} {attempt} by {cut}"
+            assert!(rt;
+                holds(alloc, &rules, row, cut) == Some(true),
+                "{row} by {cut}"
             );
         }
     }
@@ -52,31 +66,33 @@ fn the_first_rule_for_the_ask_answers_in_its_attempts(rt: HostRuntime) -> Result
 }
 
 // An ask for the rest of a file with a tag, and one for a file that is newer: a rule looks at URL and place alone.
+fn answer_to(alloc: Global, from: u64, tag: Option<Tag>, since: Option<Moment>) -> Option<Vec<u8>>
+    requires { IfSome since (λ moment. moment.0 < moment_limit) }
+{
+    let rules = [
+        rule(alloc, b"http://a/f", 2, (0, 9), b"c", false).ok()?,
+        rule(alloc, b"http://a/f", 0, (0, 9), b"abc", false).ok()?,
+    ];
+    let (origin, mut right) = MemoryOrigin::<Untold, NoGate>::start(alloc, &rules, 2, NoGate).ok()?;
+    let ask = Ask {
+        url: Text::copy(alloc, b"http://a/f").ok()?,
+        from,
+        tag,
+        since,
+    };
+    match origin.dial(alloc, right.draw(), &ask) {
+        Dial::Up(conn) => Some(read_all(alloc, conn).ok()?.0),
+        _ => None,
+    }
+}
+
 #[test]
 fn a_rule_answers_an_ask_with_a_tag_or_a_moment(rt: HostRuntime) -> Result<(), Fail> {
     let alloc = rt.alloc();
-    let rules = [
-        rule(alloc, b"http://a/f", 2, (0, 9), b"c", false)?,
-        rule(alloc, b"http://a/f", 0, (0, 9), b"abc", false)?,
-    ];
-    let (origin, mut right) = MemoryOrigin::<Untold, NoGate>::start(alloc, &rules, 2, NoGate)?;
-    for (from, tag, since, bytes) in [
-        (2, "\"x\"", None, "c"),
-        (0, "", Some(1000), "abc"),
-        (0, "\"x\"", Some(0), "abc"),
-    ] {
-        let mut ask = plain_ask(alloc, b"http://a/f", from)?;
-        ask.tag = Tag::read(tag.as_bytes());
-        ask.since = since.map(Moment);
-        assert!(rt; since.is_none_or(|seconds| seconds < 2000) && right.next() < 9);
-        let Dial::Up(conn) = origin.dial(alloc, right.draw(), &ask) else {
-            assert!(rt; false, "the dial comes up");
-            return Ok(());
-        };
-        let (got, slip) = read_all(alloc, conn)?;
-        assert_eq!(rt; got.as_slice(), bytes.as_bytes());
-        assert_eq!(rt; slip, None);
-    }
+    let rest = answer_to(alloc, 2, Tag::read(b"\"x\""), None);
+    assert!(rt; matches!(&rest, Some(bytes) if bytes.as_slice() == b"c".as_slice()));
+    let newer = answer_to(alloc, 0, None, Some(Moment(1000)));
+    assert!(rt; matches!(&newer, Some(bytes) if bytes.as_slice() == b"abc".as_slice()));
     Ok(())
 }
 

@@ -1,0 +1,133 @@
+//! A body in each of its stages.
+ghost use Rattle.std.specs.Prelude.{◌≤◌};
+
+use crate::bodies::{Body, Unmade, opening, running, send};
+use acng_base::CachePath;
+use acng_grow::{Asked, Shown, Taken, Why};
+use acng_head::Label;
+use std::alloc::Global;
+use std::test::Fail;
+
+// What `take` gives from a place into a buffer of so many bytes: a letter, and the bytes.
+fn taken(body: &mut Body, from: u64, room: usize) -> (char, [u8; 4])
+    requires { (1 ≤ room) × (room ≤ 4) }
+{
+    let mut buf = *b"----";
+    let letter = match body.take(from, &mut buf[..room]) {
+        Taken::Bytes(1) => '1',
+        Taken::Bytes(2) => '2',
+        Taken::Bytes(3) => '3',
+        Taken::Bytes(_) => '4',
+        Taken::NotYet => 'n',
+        Taken::Done => 'd',
+        Taken::Cut => 'c',
+        Taken::Slip(_) => 's',
+    };
+    (letter, buf)
+}
+
+// The bytes of a body of three of four bytes, while it runs and after it was cut.
+fn runs_and_is_cut(alloc: Global) -> Result<bool, Unmade> {
+    let mut body = running(alloc, &[], b"abc", Some(4))?;
+    let runs = taken(&mut body, 1, 2) == ('2', *b"bc--") && taken(&mut body, 3, 2).0 == 'n';
+    body.cut(Why::Early { attempt: 3 });
+    let ends = taken(&mut body, 3, 2).0 == 'c' && taken(&mut body, 0, 3) == ('3', *b"abc-");
+    Ok(runs && ends)
+}
+
+#[test]
+fn a_running_body_gives_its_bytes_and_a_cut_one_keeps_them(rt: HostRuntime) -> Result<(), Fail> {
+    assert!(rt; matches!(runs_and_is_cut(rt.alloc()), Ok(true)));
+    Ok(())
+}
+
+// Past the end of a whole body of three bytes, and its two last ones as they are sent.
+fn is_done(alloc: Global) -> Result<bool, Unmade> {
+    let mut body = running(alloc, &[], b"abc", Some(3))?;
+    body.finish();
+    let done = taken(&mut body, 3, 1).0 == 'd' && taken(&mut body, 9, 1).0 == 'd';
+    let last = taken(&mut body, 2, 4) == ('1', *b"c---");
+    Ok(done && last && send(alloc, &mut body, 1)?.as_slice() == b"bc".as_slice())
+}
+
+#[test]
+fn a_whole_body_is_done_past_its_end(rt: HostRuntime) -> Result<(), Fail> {
+    assert!(rt; matches!(is_done(rt.alloc()), Ok(true)));
+    Ok(())
+}
+
+// Whether an asked body of these attempts is told of.
+fn is_told(
+    alloc: Global,
+    body: &Body,
+    path: &[u8],
+    first_try: u64,
+    old: Option<Label>,
+) -> Result<bool, Unmade> {
+    let asked = Asked {
+        path: CachePath::read(alloc, path)?,
+        first_try,
+        old,
+    };
+    Ok(body.look(&asked).is_some())
+}
+
+// A body of attempt 3 is told of to those that ask for it, by its attempts or as the old one.
+fn tells_the_asked(alloc: Global) -> Result<bool, Unmade> {
+    let body = running(alloc, &[], b"abc", None)?;
+    let same = Some(Label::Fetched { first: 3, last: 3 });
+    let other = Some(Label::Fetched { first: 2, last: 3 });
+    let by_attempt = is_told(alloc, &body, b"h/a", 3, None)?
+        && is_told(alloc, &body, b"h/a", 0, None)?;
+    let not_before = !is_told(alloc, &body, b"h/a", 4, None)?
+        && !is_told(alloc, &body, b"h/a", 4, other)?;
+    let as_old = is_told(alloc, &body, b"h/a", 4, same)?;
+    let other_path = is_told(alloc, &body, b"h/b", 3, None)?;
+    let opens = is_told(alloc, &opening(alloc)?, b"h/a", 3, None)?;
+    Ok(by_attempt && not_before && as_old && !other_path && !opens)
+}
+
+#[test]
+fn a_look_tells_of_the_asked_body_alone(rt: HostRuntime) -> Result<(), Fail> {
+    assert!(rt; matches!(tells_the_asked(rt.alloc()), Ok(true)));
+    Ok(())
+}
+
+fn is_refused(alloc: Global) -> Result<bool, Unmade> {
+    let mut body = opening(alloc)?;
+    let opens = taken(&mut body, 0, 1).0 == 'n';
+    body.refuse(Why::Gone { attempt: 7 });
+    let told = matches!(body.shown(), Some(Shown::Gone { attempt: 7 }));
+    Ok(opens && told && taken(&mut body, 0, 1).0 == 'c')
+}
+
+#[test]
+fn a_body_is_refused_with_its_cause(rt: HostRuntime) -> Result<(), Fail> {
+    assert!(rt; matches!(is_refused(rt.alloc()), Ok(true)));
+    Ok(())
+}
+
+// A body of three of four bytes is cut, and attempt 9 goes on with its file.
+fn goes_on(alloc: Global) -> Result<bool, Unmade> {
+    let mut body = running(alloc, &[], b"abc", Some(4))?;
+    body.cut(Why::NoMemory);
+    let Some(part) = body.move_out() else {
+        return Ok(false);
+    };
+    let Label::Fetched { first, .. } = part.label else {
+        return Ok(false);
+    };
+    let left = body.url().is_none() && taken(&mut body, 0, 1).0 == 'c';
+    let mut next = opening(alloc)?;
+    next.go_on(part.body, part.url, first, 9, part.facts);
+    next.add(alloc, b"d")?;
+    next.finish();
+    let label = next.label() == Some(Label::Fetched { first: 3, last: 9 });
+    Ok(left && label && taken(&mut next, 0, 4) == ('4', *b"abcd"))
+}
+
+#[test]
+fn a_cut_body_hands_its_file_on_and_another_goes_on_with_it(rt: HostRuntime) -> Result<(), Fail> {
+    assert!(rt; matches!(goes_on(rt.alloc()), Ok(true)));
+    Ok(())
+}
