@@ -1,5 +1,5 @@
 //! A body in each of its stages.
-ghost use Rattle.std.specs.Prelude.{◌≤◌};
+ghost use Rattle.std.specs.Prelude.{◌≡◌, ◌≤◌};
 
 use crate::bodies::{Body, Unmade, opening, running, send};
 use acng_base::CachePath;
@@ -11,6 +11,7 @@ use std::test::Fail;
 // What `take` gives from a place into a buffer of so many bytes: a letter, and the bytes.
 fn taken(body: &mut Body, from: u64, room: usize) -> (char, [u8; 4])
     requires { (1 ≤ room) × (room ≤ 4) }
+    ensures { body.new.seen ≡ body.old.seen }
 {
     let mut buf = *b"----";
     let letter = match body.take(from, &mut buf[..room]) {
