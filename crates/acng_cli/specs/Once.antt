@@ -35,7 +35,8 @@ pub record Outside (L : Type 0) : Type 0 where
 -- ---- the reply to a request
 
 -- one attempt was made, with the number that was next, and this is the reply to what it reads as
-pub record AnswersAt {S L : Type 0} (s : SiteGhosts S) (l : LinkGhosts L) (url : List ℕ) (m : Manner) (note : Note) (old new : Outside L) : Type 0 where
+pub record AnswersAt {S L : Type 0} (s : SiteGhosts S) (l : LinkGhosts L) (url : List ℕ) (m : Manner) (note : Note)
+    (old new : Outside L) : Type 0 where
   pub heard : Reads s old.next url
   pub sends : Sends l (reply_to old.next m heard.reading) note old.client new.client
   pub drawn : new.next ≡ old.next + 1

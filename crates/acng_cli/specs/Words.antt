@@ -98,7 +98,8 @@ with_files conf cache (Ok c) = Ok (record { command = c; conf = conf; cache = ca
 with_files conf cache (Err e) = Err e
 
 abbrev pub said_by : List Text → Result Words WordsFault
-said_by words = with_files (or_default (codes "acng.conf") (word_of (codes "conf") words)) (or_default (codes "cache") (word_of (codes "cache") words))
+said_by words =
+    with_files (or_default (codes "acng.conf") (word_of (codes "conf") words)) (or_default (codes "cache") (word_of (codes "cache") words))
     (command_in (word_of (codes "COMMAND") words) (numbered (word_of (codes "NUMBER") words)))
 
 -- what the words say, or why they aren't read

@@ -1,0 +1,7 @@
+//! Walks through the public calls of `acng_cli`, apart from the crate so that its functions aren't proved a second time.
+#![tactic(auto)]
+
+#[cfg(test)]
+mod maint;
+#[cfg(test)]
+mod once;
