@@ -1,4 +1,6 @@
 //! The end of a body: its file is made durable and sealed, a held file is kept, and the plan of a body is compared.
+ghost use Rattle.std.specs.Prelude.{◌≡◌, Some, None};
+
 use crate::bodies::{Body, Unmade, opening, running, send};
 use acng_base::{CachePath, Text};
 use acng_grow::{Facts, Seen, Stage};
@@ -9,7 +11,9 @@ use std::test::Fail;
 
 const LABEL: Label = Label::Fetched { first: 3, last: 3 };
 
-fn two_bytes() -> Facts {
+fn two_bytes() -> Facts
+    ensures { result ≡ record { total = Some 2; modified = None; tag = None } }
+{
     Facts {
         total: Some(2),
         modified: None,
