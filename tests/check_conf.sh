@@ -13,6 +13,8 @@ mkdir "$work/empty"
 # Neither is a list file: a folder, and a link to nothing, as editors leave beside a file.
 mkdir "$work/conf/groups/mirrors_debian_folder"
 ln -s nowhere "$work/conf/groups/.#acng.conf"
+# Nor is a name that isn't UTF-8, where the file system takes one.
+: > "$work/conf/groups/"$'mirrors_\xff' 2> /dev/null
 
 failed=0
 # expect FOLDER STATUS TEXT WORD..: the program's status and output, run in that folder
@@ -48,4 +50,26 @@ expect "$work/empty" 2 'words: StrayNumber\n' expire 3
 expect "$work/empty" 2 'words: NoCommand\n' check
 expect "$work/empty" 2 'words: NotRead\n' check-conf $'\xff'
 expect "$work/empty" 2 'words: NotRead\n'
+expect "$work/empty" 2 'words: StrayNumber\n' once 3
+# A folder can't be read, and a file without an end is read to its limit.
+expect "$work/empty" 4 '' check-conf --conf .
+[ -c /dev/zero ] && expect "$work/empty" 3 'line 1: TooLong\n' check-conf --conf /dev/zero
+# Of several statuses that of a failed output comes last.
+if [ -c /dev/full ]; then
+    full() {
+        local folder=$1 status=$2
+        shift 2
+        (cd "$folder" && timeout 30 "$program" "$@" < /dev/null > /dev/full 2> /dev/null)
+        local got=$?
+        if [ "$got" = "$status" ]; then
+            echo "check_conf: $* with a full output: as expected"
+        else
+            echo "check_conf: $* with a full output: status $got, wanted $status"
+            failed=1
+        fi
+    }
+    full "$work/conf/groups" 4 check-conf
+    full "$work/conf/refused" 3 check-conf
+    full "$work/empty" 2 serve
+fi
 exit $failed
