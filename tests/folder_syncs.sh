@@ -12,7 +12,12 @@ work=$(mktemp -d)
 trap 'rm -rf "$work"' EXIT
 # The tests as a check left them built, or else as they are tried without a proof.
 program=$PWD/out/acng_keeper_tests_tests
-if [ -x "$program" ]; then tests=("$program"); else tests=(rt try --test); fi
+if [ -x "$program" ]; then
+    mapfile -t names < <("$program" --list | sed -n 's/: test$//p')
+    tests=(bash -c 'program=$1; shift; for name; do "$program" "$name" || exit 1; done' run "$program" "${names[@]}")
+else
+    tests=(rt try --test)
+fi
 TMPDIR=$work strace -f -qq -y -e trace=openat,pwrite64,ftruncate,fdatasync,fsync,rename,renameat,renameat2 \
     -o "$work/calls" "${tests[@]}" > "$work/log" 2>&1 || { echo "folder_syncs: a test failed"; cat "$work/log"; exit 1; }
 grep '/acng-keeper-' "$work/calls" > "$work/trace"
