@@ -2,9 +2,9 @@
 ghost use Rattle.std.specs.Prelude.{◌≡◌, IfOk};
 
 use acng_base::{
-    CachePath, Clock, Failed, FixedClock, HostClock, LineState, Link, MemoryLink, MemorySink,
-    MemorySource, Moment, NoMemory, PathFault, Scan, Sink, Source, StdLink, StdSink, StdSource,
-    Tag, Text, Texts, Unread, base_name, copy_at_most, copy_front, cut_last, find_byte,
+    CachePath, Clock, Failed, FixedClock, Hash, HashSoFar, HostClock, LineState, Link, MemoryLink,
+    MemorySink, MemorySource, Moment, NoMemory, PathFault, Scan, Sink, Source, StdLink, StdSink,
+    StdSource, Tag, Text, Texts, Unread, base_name, copy_at_most, copy_front, cut_last, find_byte,
     first_bytes, read_digits, read_length, scan_block, send_all, send_counted, trim, without_cr,
     words,
 };
@@ -355,4 +355,21 @@ fn an_interrupted_call_is_made_again(rt: HostRuntime) {
             Err(Failed)
         );
     }
+}
+
+// The SHA-256 hash of `abc` (FIPS 180-4).
+const ABC: [u8; 32] = [
+    0xba, 0x78, 0x16, 0xbf, 0x8f, 0x01, 0xcf, 0xea, 0x41, 0x41, 0x40, 0xde, 0x5d, 0xae, 0x22, 0x23,
+    0xb0, 0x03, 0x61, 0xa3, 0x96, 0x17, 0x7a, 0x9c, 0xb4, 0x10, 0xff, 0x61, 0xf2, 0x00, 0x15, 0xad,
+];
+
+#[test]
+fn a_hash_is_that_of_all_pieces(rt: HostRuntime) -> Result<(), Fail> {
+    let mut hash = HashSoFar::new();
+    hash.add(b"a");
+    assert!(rt; hash.so_far() != Hash(ABC));
+    hash.add(b"bc");
+    assert!(rt; hash.so_far() == Hash(ABC));
+    assert!(rt; hash.end() == Hash(ABC));
+    Ok(())
 }
