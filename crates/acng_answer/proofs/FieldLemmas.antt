@@ -13,11 +13,9 @@ use Rattle.acng_base.specs.Heads.{at_byte, head_of}
 use Rattle.acng_base.specs.Fields.{length_of, gives, agreed}
 use Rattle.acng_base.proofs.HeadLemmas.{head_reads, no_head}
 use Rattle.acng_base.proofs.Ranges.{rest_is_drop}
-use Rattle.acng_answer.specs.declared.field.Named.{Named}
-use Rattle.acng_answer.specs.declared.field.Named.TheVariants.{Absent, Once, Repeated}
 use Rattle.acng_answer.specs.declared.framing.Lengths.{Lengths}
 use Rattle.acng_answer.specs.declared.framing.Lengths.TheVariants.{Absent as NoLength, Agreed, Refused}
-use Rattle.acng_answer.specs.Blocks.{AreLengths, AreNamed, IsHeadAt, more_lengths}
+use Rattle.acng_answer.specs.Blocks.{AreLengths, IsHeadAt, more_lengths}
 
 -- ---- what the parser finds is what the function gives
 
@@ -35,15 +33,6 @@ pub found_none : (block : List ℕ) (r : Option ResponseSpans)
     → IfNone r (head_of block ≡ None)
 found_none block None h = no_head block h
 found_none block (Some r) h = h
-
--- ---- the fields of one name
-
--- one more field of the name, where there is one already
-pub named_again : (block x : List ℕ) (vs : List (List ℕ)) (found : Named) → ((s : Span) × (found ≡ Once s)) ⊎ (found ≡ Repeated)
-    → AreNamed block found vs → AreNamed block Repeated (vs ++ x ∷ [])
-named_again block x vs Absent is h = elim is [ inl k ↦ cc | inr k ↦ cc ]
-named_again block x vs (Once s) is h = (span_bytes block s, x, [], ap (λ t. t ++ x ∷ []) h.0)
-named_again block x vs Repeated is h = (h.0, h.1, h.2 ++ x ∷ [], ap (λ t. t ++ x ∷ []) h.3)
 
 -- ---- lengths
 

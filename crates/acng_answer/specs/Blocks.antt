@@ -9,8 +9,6 @@ use Rattle.acng_base.specs.Fields.{agreed, content_range, tag_of, modified_of, l
 use Rattle.acng_base.specs.Framings.{Framing, Empty, Chunks, ToEnd, Counted, framing, part_len, stated_length}
 use Rattle.acng_base.specs.Answers.{is_interim}
 use Rattle.acng_answer.specs.declared.step.AnswerHead.{AnswerHead}
-use Rattle.acng_answer.specs.declared.field.Named.{Named}
-use Rattle.acng_answer.specs.declared.field.Named.TheVariants as named
 use Rattle.acng_answer.specs.declared.framing.Lengths.{Lengths}
 use Rattle.acng_answer.specs.declared.framing.Lengths.TheVariants as lengths
 use Rattle.acng_answer.specs.declared.framing.Framed.{Framed}
@@ -24,16 +22,6 @@ use Rattle.acng_answer.specs.declared.head.Judged.TheVariants as judged
 abbrev pub IsHeadAt : List ℕ → List HeaderSpan → ResponseSpans → Option Head → Type 0
 IsHeadAt block headers r None = ⊥
 IsHeadAt block headers r (Some h) = (r.code ≡ h.status) × (map (header_bytes block) (take r.headers headers) ≡ h.fields)
-
--- these are the values of the fields of one name
-abbrev pub AreNamed : List ℕ → Named → List (List ℕ) → Type 0
-AreNamed block named.Absent vs = vs ≡ []
-AreNamed block (named.Once s) vs = (vs ≡ span_bytes block s ∷ []) × IsWithin (length block) s
-AreNamed block named.Repeated vs = (v : List ℕ) × (w : List ℕ) × (more : List (List ℕ)) × (vs ≡ v ∷ w ∷ more)
-
--- a field that stands once has this span
-abbrev pub IsOnly : List ℕ → Option Span → Option (List ℕ) → Type 0
-IsOnly block s value = (option_map (span_bytes block) s ≡ value) × IfSome s (IsWithin (length block))
 
 -- what the values of `Content-Length` say together
 abbrev pub AreLengths : Lengths → List (List ℕ) → Type 0

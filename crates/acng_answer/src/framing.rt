@@ -12,8 +12,7 @@ ghost use Rattle.acng_base.specs.Heads.{Head, values};
 ghost use Rattle.acng_base.specs.Framings.{framing, part_len, by_length as lengths_frame};
 ghost use Rattle.acng_answer.specs.Blocks.{AreLengths, IsFraming, more_lengths};
 
-use crate::field::{Named, find_name, is_name};
-use acng_base::read_length;
+use acng_base::{Named, find_name, is_name, read_length};
 use httparse::spans::{HeaderSpan, Span};
 
 /// How a body is framed; the part is what a 206's range has of it.

@@ -12,12 +12,11 @@ ghost use Rattle.acng_base.specs.Fields.{content_range, tag_of, modified_of, loc
 ghost use Rattle.acng_base.specs.Framings.{stated_length};
 ghost use Rattle.acng_answer.specs.Blocks.{IsFramedAs, IsHeadAt, IsJudged, IsRange};
 
-use crate::field::find_only;
 use crate::framing::{Framed, frame};
 use crate::location::Location;
 use crate::range::read_range;
 use crate::step::AnswerHead;
-use acng_base::{Moment, Tag};
+use acng_base::{Moment, Tag, find_only};
 use httparse::Status;
 use httparse::spans::{EMPTY_HEADER_SPAN, HeaderSpan, ResponseSpans, parse_response};
 use httpdate::HttpDate;

@@ -8,7 +8,6 @@
 
 mod body;
 mod chunked;
-mod field;
 mod framing;
 mod head;
 mod location;

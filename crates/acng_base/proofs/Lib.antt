@@ -4,8 +4,10 @@ pub mod Buffered
 pub mod Cutting
 pub mod Digits
 mod Endings
+mod FieldLemmas
 pub mod Folders
 pub mod HeadLemmas
+mod LineScans
 pub mod Ranges
 pub mod Readings
 mod Rows

@@ -1,6 +1,7 @@
 -- The reading of an answer (RFC 9112, section 6): a function of the whole text, of a mark whether the connection ended
 -- after it, and of a limit of bytes.
 use Rattle.std.specs.Prelude.{◌≡◌, ◌≤◌, ℕ, zero, suc, ◌+◌, ◌-◌, ◌^◌, Bool, true, false, ◌&&◌, ◌==◌, List, [], ◌∷◌, ◌++◌, length, take, drop, nat_le, nat_lt, Option, Some, None, option_map, cond}
+use Rattle.acng_base.specs.Limits.{most_head, most_size_line}
 use Rattle.acng_base.specs.Lines.{head_block_len, section_len}
 use Rattle.acng_base.specs.Heads.{Head, head_of}
 use Rattle.acng_base.specs.Framings.{Framing, Empty, Chunks, ToEnd, Counted, framing, part_len, due_of}
@@ -64,7 +65,7 @@ on_trailer most at ended text None = unended most at ended text
 on_trailer most at ended text (Some n) = nothing Whole
 
 abbrev pub trailer : ℕ → Bool → List ℕ → Reading
-trailer at ended text = on_trailer 16384 at ended text (section_len (take 16384 text))
+trailer at ended text = on_trailer most_head at ended text (section_len (take most_head text))
 
 -- the CR LF after a chunk's bytes: what follows it, or the outcome
 pub data Seam : Type 0 where
@@ -127,14 +128,14 @@ on_size next part at line_at ended text (Some (suc m)) = chunk_bytes next (suc m
 
 -- a size line is judged when it is whole, or when 1,024 bytes of it have come without its end
 abbrev pub on_line : (Option ℕ → ℕ → List ℕ → Reading) → Option ℕ → ℕ → Bool → List ℕ → Option ℕ → Reading
-on_line next part at ended text None = unended 1024 at ended text
+on_line next part at ended text None = unended most_size_line at ended text
 on_line next part at ended text (Some n) = on_size next part (at + n) at ended (drop n text) (size_of (take n text))
 
 -- chunks, and the lines after the last one; the fuel is more than the text's length
 abbrev pub chunks : ℕ → Option ℕ → ℕ → Bool → List ℕ → Reading
 chunks zero part at ended text = nothing (wants_more ended)
 chunks (suc fuel) part at ended text =
-    on_line (λ p a rest. chunks fuel p a ended rest) part at ended text (first_line_len (take 1024 text))
+    on_line (λ p a rest. chunks fuel p a ended rest) part at ended text (first_line_len (take most_size_line text))
 
 abbrev pub from_chunk : Option ℕ → ℕ → Bool → List ℕ → Reading
 from_chunk part at ended text = chunks (suc (length text)) part at ended text
@@ -167,13 +168,13 @@ on_head next at n ended text (Some h) = on_kind next h at n ended text (is_inter
 
 -- a block is judged when it is whole, or when 16,384 bytes of it have come without its end
 abbrev pub on_block : (ℕ → List ℕ → Reading) → ℕ → Bool → List ℕ → Option ℕ → Reading
-on_block next at ended text None = unended 16384 at ended text
+on_block next at ended text None = unended most_head at ended text
 on_block next at ended text (Some n) = on_head next at n ended text (head_of (take n text))
 
 -- heads, and the body of the final one; the fuel is more than the text's length
 abbrev pub heads : ℕ → ℕ → Bool → List ℕ → Reading
 heads zero at ended text = nothing (wants_more ended)
-heads (suc fuel) at ended text = on_block (λ a rest. heads fuel a ended rest) at ended text (head_block_len (take 16384 text))
+heads (suc fuel) at ended text = on_block (λ a rest. heads fuel a ended rest) at ended text (head_block_len (take most_head text))
 
 -- from the first byte of a head, at this place
 abbrev pub from_head : ℕ → Bool → List ℕ → Reading

@@ -5,6 +5,7 @@ use Rattle.std.specs.Str.{str_to_ascii_lowercase}
 use Rattle.std.specs.Char.{is_ascii_digit}
 use Rattle.httparse.specs.Grammar.{LineEnd, lf, Field, ResponseHead, print_response, status_code, is_token, is_value_byte, reason_phrase}
 use Rattle.httparse.specs.Spans.{name_and_value}
+use Rattle.acng_base.specs.Limits.{most_fields}
 use Rattle.acng_base.specs.Lines.{lines}
 
 -- status, and the names and values of the fields
@@ -76,7 +77,7 @@ response_of block =
 abbrev pub head_of : List ℕ → Option Head
 head_of block =
     option_and_then
-    (λ h. cond (nat_le (length h.fields) 64) (Some (record { status = status_code h; fields = map name_and_value h.fields })) None)
+    (λ h. cond (nat_le (length h.fields) most_fields) (Some (record { status = status_code h; fields = map name_and_value h.fields })) None)
     (response_of block)
 
 -- the values of the fields of this name, letters' case aside

@@ -4,9 +4,12 @@ pub mod Causes
 pub mod Cuts
 pub mod Fields
 pub mod Framings
+pub mod Hashes
 pub mod Heads
+pub mod Limits
 pub mod Lines
 pub mod Moments
+pub mod Named
 pub mod Names
 pub mod Numbers
 pub mod Paths

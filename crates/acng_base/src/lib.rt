@@ -11,6 +11,7 @@ mod buffer;
 mod bytes;
 mod clock;
 mod fault;
+mod field;
 mod files;
 mod hash;
 mod limit;
@@ -30,8 +31,9 @@ pub use buffer::{ByLink, Reads, Unread};
 pub use bytes::{copy_at_most, copy_front, find_byte, first_bytes};
 pub use clock::{Clock, FixedClock, HostClock, Moment};
 pub use fault::{Failed, NoMemory};
+pub use field::{Named, find_name, find_only, is_name};
 pub use files::{FileFault, named};
-pub use hash::Hash;
+pub use hash::{Hash, HashSoFar};
 pub use limit::{MOST_BYTES, MOST_FIELDS, MOST_HEAD};
 pub use line::{
     Blank, BlankOrCr, Kind, next_line_feed, trim, trim_by, trim_end_by, trim_start_by, without_cr,

@@ -1,22 +1,10 @@
 -- The fields of a name, and the words of a list.
-use Rattle.std.proofs.Common.{get_or, map, zero, suc, ◌≡◌, ℕ, ◌+◌, ◌-◌, ◌<◌, ◌≤◌, ◌⊎◌, inl, inr, Bool, true, false, List, [], ◌∷◌, ◌++◌, length, take, drop, Some, None, refl, ap, sym, ◌∙◌, arith}
+use Rattle.std.proofs.Common.{get_or, map, zero, suc, ◌≡◌, ℕ, ◌+◌, ◌-◌, ◌<◌, ◌≤◌, Bool, true, false, List, [], ◌∷◌, ◌++◌, length, take, drop, Some, None, refl, ap, sym, ◌∙◌, arith}
 use Rattle.std.specs.Prelude.{◌||◌, ◌==◌}
 use Rattle.acng_base.proofs.Ranges.{rest_is_drop}
 use Rattle.std.specs.List.{list_any, position}
-use Rattle.httparse.specs.declared.spans.Span.{Span}
-use Rattle.httparse.specs.Spans.{span_bytes}
 use Rattle.acng_base.proofs.Cutting.{cut_rest, last_rest}
-use Rattle.acng_request.specs.declared.field.Named.{Named}
-use Rattle.acng_request.specs.declared.field.Named.TheVariants.{Absent, Once, Repeated}
 use Rattle.acng_request.specs.RequestFields.{says_close, is_close}
-use Rattle.acng_request.specs.Spans.{AreNamed}
-
--- one more field of the name, where there is one already
-pub named_again : (block x : List ℕ) (vs : List (List ℕ)) (found : Named) → ((s : Span) × (found ≡ Once s)) ⊎ (found ≡ Repeated)
-    → AreNamed block found vs → AreNamed block Repeated (vs ++ x ∷ [])
-named_again block x vs Absent is h = elim is [ inl k ↦ cc | inr k ↦ cc ]
-named_again block x vs (Once s) is h = (span_bytes block s, x, [], ap (λ t. t ++ x ∷ []) h.0)
-named_again block x vs Repeated is h = (h.0, h.1, h.2 ++ x ∷ [], ap (λ t. t ++ x ∷ []) h.3)
 
 abbrev is_comma : ℕ → Bool
 is_comma b = b == 44

@@ -1,5 +1,6 @@
 -- What the bytes of a connection ask next: a function of them, from the end of the request before on.
 use Rattle.std.specs.Prelude.{ℕ, Bool, ◌||◌, ◌==◌, List, take, drop, length, nat_le, Option, Some, None, option_and_then, cond, codes, bytes_eq, Result, Ok, Err}
+use Rattle.acng_base.specs.Limits.{most_head, most_fields}
 use Rattle.acng_base.specs.Lines.{lines, head_block_len}
 use Rattle.acng_request.specs.RequestHeads.{Head, head_of, inner_lines}
 use Rattle.acng_request.specs.RequestFields.{value_of, part_of, since, closes, has_body}
@@ -38,7 +39,7 @@ by_head (Some h) = judged h
 
 -- the request of a whole block, or the first refusal; the limit of 64 lines is this project's
 abbrev pub read_block : List ℕ → Result Request HeadFault
-read_block block = cond (nat_le (inner_lines (lines block)) 64) (by_head (head_of block)) (Err TooLarge)
+read_block block = cond (nat_le (inner_lines (lines block)) most_fields) (by_head (head_of block)) (Err TooLarge)
 
 abbrev pub before_rest : List ℕ → Result Request HeadFault → Next
 before_rest rest (Ok r) = Asks r rest
@@ -47,8 +48,8 @@ before_rest rest (Err fault) = Refuses fault
 -- a head goes through the first empty line after one that isn't empty. It is judged once it is whole, or 16,384 bytes
 -- are there, which is this project's limit.
 abbrev pub by_block : List ℕ → Option ℕ → Next
-by_block bytes None = cond (nat_le 16384 (length bytes)) (Refuses TooLarge) Ends
+by_block bytes None = cond (nat_le most_head (length bytes)) (Refuses TooLarge) Ends
 by_block bytes (Some n) = before_rest (drop n bytes) (read_block (take n bytes))
 
 abbrev pub next : List ℕ → Next
-next bytes = by_block bytes (head_block_len (take 16384 bytes))
+next bytes = by_block bytes (head_block_len (take most_head bytes))

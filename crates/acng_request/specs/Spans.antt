@@ -9,8 +9,6 @@ use Rattle.acng_request.specs.declared.got.Request.{Request}
 use Rattle.acng_request.specs.declared.got.HeadFault.{HeadFault}
 use Rattle.acng_request.specs.declared.head.Refusal.{Refusal}
 use Rattle.acng_request.specs.declared.head.Refusal.TheVariants as refusal
-use Rattle.acng_request.specs.declared.field.Named.{Named}
-use Rattle.acng_request.specs.declared.field.Named.TheVariants.{Absent, Once, Repeated}
 
 -- the head that spans of a block cover
 abbrev pub head_at : List ℕ → RequestSpans → List HeaderSpan → Head
@@ -20,12 +18,6 @@ head_at block r fields = record {
   minor = r.version;
   fields = map (header_bytes block) fields;
 }
-
--- these are the values of the fields of one name
-abbrev pub AreNamed : List ℕ → Named → List (List ℕ) → Type 0
-AreNamed block Absent vs = vs ≡ []
-AreNamed block (Once s) vs = (vs ≡ span_bytes block s ∷ []) × IsWithin (length block) s
-AreNamed block Repeated vs = (v : List ℕ) × (w : List ℕ) × (more : List (List ℕ)) × (vs ≡ v ∷ w ∷ more)
 
 -- the block's request, unless memory was refused; or its refusal
 abbrev pub Judges : Result Request HeadFault → Result Request Refusal → Type 0

@@ -2,31 +2,21 @@
 //!
 //! A field is read only where it stands once; one that doesn't read is as if it weren't there. Names go by letters
 //! without case (section 5.1). Nothing is copied: a field is a span of the head's block.
-ghost use Rattle.std.specs.Prelude.{◌≡◌, ◌++◌, ◌∷◌, [], List, ℕ, codes, length, map, All, Some, option_map, option_and_then, bytes_eq};
+ghost use Rattle.std.specs.Prelude.{◌≡◌, codes, length, map, All, Some, option_map, option_and_then};
 ghost use Rattle.std.specs.List.{list_any};
 ghost use Rattle.std.specs.Str.{str_to_ascii_lowercase};
-ghost use Rattle.httparse.specs.Spans.{IsHeaderWithin, IsWithin, header_bytes, span_bytes};
+ghost use Rattle.httparse.specs.Spans.{IsHeaderWithin, header_bytes};
 ghost use Rattle.acng_base.specs.Heads.{values};
 ghost use Rattle.acng_request.specs.RequestFields.{value_of, part_of, places_of, part_from, moment_of, since, closes, says_close, is_close, is_there, is_length, announces, has_body};
 ghost use Rattle.acng_base.specs.Fields.{length_of};
-ghost use Rattle.acng_request.specs.Spans.{AreNamed};
 
 use crate::got::Part;
-use acng_base::{Moment, find_byte, read_digits, read_length, trim};
-use httparse::spans::{HeaderSpan, Span};
+use acng_base::{Moment, Named, find_byte, find_name, is_name, read_digits, read_length, trim};
+use httparse::spans::HeaderSpan;
 use httpdate::HttpDate;
 
 /// The most digits of a place in a file, leading zeros among them. A number of so many is below 2^64.
 const MOST_DIGITS: usize = 19;
-
-/// How often a name stands among the fields.
-#[derive(Clone, Copy, Debug, Drop)]
-pub enum Named {
-    Absent,
-    /// Once, with this value.
-    Once(Span),
-    Repeated,
-}
 
 /// The value of the field of a name, which is given in small letters, where it stands once.
 pub fn value_of<'a>(block: &'a [u8], fields: &[HeaderSpan], name: &[u8]) -> Option<&'a [u8]>
@@ -37,40 +27,6 @@ pub fn value_of<'a>(block: &'a [u8], fields: &[HeaderSpan], name: &[u8]) -> Opti
     match find_name(block, fields, name) {
         Named::Once(value) => Some(value.of(block)),
         _ => None,
-    }
-}
-
-// How often the name stands among the fields; it is given in small letters.
-fn find_name(block: &[u8], fields: &[HeaderSpan], name: &[u8]) -> Named
-    requires within { All (IsHeaderWithin (length block.now)) fields.now }
-    requires small { str_to_ascii_lowercase name.now ≡ name.now }
-    ensures { AreNamed block.now result (values name.now (map (header_bytes block.now) fields.now)) }
-{
-    let mut found = Named::Absent;
-    for field in fields {
-        if is_name(field.name.of(block), name) {
-            found = one_more(found, field.value);
-        }
-    }
-    found
-}
-
-// Whether a text is the name, letters' case aside.
-fn is_name(text: &[u8], name: &[u8]) -> bool
-    requires { str_to_ascii_lowercase name.now ≡ name.now }
-    ensures { result ≡ bytes_eq (str_to_ascii_lowercase text.now) name.now }
-{
-    text.eq_ignore_ascii_case(name)
-}
-
-// The same with one more field.
-fn one_more(found: Named, value: Span) -> Named
-    ensures { (block : List ℕ) (vs : List (List ℕ)) → IsWithin (length block) value → AreNamed block found vs
-        → AreNamed block result (vs ++ span_bytes block value ∷ []) }
-{
-    match found {
-        Named::Absent => Named::Once(value),
-        Named::Once(_) | Named::Repeated => Named::Repeated,
     }
 }
 

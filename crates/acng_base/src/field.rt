@@ -6,7 +6,7 @@ ghost use Rattle.std.specs.Str.{str_to_ascii_lowercase};
 ghost use Rattle.httparse.specs.Spans.{IsHeaderWithin, IsWithin, header_bytes, span_bytes};
 ghost use Rattle.acng_base.specs.Heads.{values};
 ghost use Rattle.acng_base.specs.Fields.{only};
-ghost use Rattle.acng_answer.specs.Blocks.{AreNamed, IsOnly};
+ghost use Rattle.acng_base.specs.Named.{AreNamed, IsOnly};
 
 use httparse::spans::{HeaderSpan, Span};
 
