@@ -39,7 +39,7 @@ FollowsTo sending part there cause old new sent (stop.Cut c) =
     (there ≡ false) × (cause ≡ Some c) × (sent ≡ length part) × Sends sending part [] old new
 FollowsTo sending part there cause old new sent (stop.Slip q) = (sent ≤ length part) × Sends sending (take sent part) [] old new
 FollowsTo sending part there cause old new sent stop.ClientFault =
-    BreaksIn sending part sent old new ⊎ BreaksAfter sending part sent old new
+    BreaksIn sending part sent old new ⊎ ((there ≡ true) × BreaksAfter sending part sent old new)
 
 -- some part of the counted length was sent, which is the body's where its file tells
 pub record FollowsAs {Q : Type 0} (told : Type 0) (sending : Sending) (g : Grown) (from : ℕ) (to : Option ℕ)

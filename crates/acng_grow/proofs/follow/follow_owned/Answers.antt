@@ -3,7 +3,7 @@ use Rattle.std.proofs.Common.{◌≡◌, ◌≤◌, ◌<◌, ◌+◌, ◌-◌, t
 use Rattle.std.proofs.Common.{length-drop}
 use Rattle.std.specs.Io.KnownBytes.{Appends}
 use Rattle.acng_grow.specs.Grown.{text_of}
-use Rattle.acng_grow.specs.Follows.{end_at, part_of, FollowsAs}
+use Rattle.acng_grow.specs.Follows.{end_at, is_there, part_of, FollowsAs}
 use Rattle.acng_grow.specs.Sends.{Breaks, HasGone, piece_text}
 use Rattle.acng_grow.proofs.Pieces.{gone_more}
 use Rattle.acng_grow.proofs.Following.{rests_trans, rests_text, part_most, piece_stands, filled, piece_broke, slip_sent, last_broke}
@@ -131,5 +131,12 @@ returns-in-Err-send_last-clause-sends g c =
     let all : sent ≡ most = omega (arith, few, c.loop-sent-test.false) in
     let b = c.in-Err-send_last.ensures.bytes in
     let after = last_broke told c.args.sending part sent most b.0 w0 w1 w2 gone f all b.2 in
+    let rests = c.loop-sent.invariant.rests.seen in
+    let at_stage = c.stage.ensures ∙ ap (λ s. s.stage) rests in
+    let at_size = c.len-2.ensures.size ∙ ap (λ s. s.size) rests in
+    let there : is_there body.seen.stage body.seen.size c.args.from c.args.to ≡ true =
+    ap (λ s. is_there s body.seen.size c.args.from c.args.to) (sym at_stage)
+    ∙ ap (λ n. is_there c.stage.result n c.args.from c.args.to) (sym at_size)
+    ∙ sym c.if-not-is_there.ensures in
     subst (λ r. FollowsAs (told ≡ true) c.args.sending body c.args.from c.args.to w0 w2 r) (sym c.ended-in-Err-send_last.ensures)
-    (record { part = f.whole; count = f.count ∙ top; is = f.is; goes = inr after })
+    (record { part = f.whole; count = f.count ∙ top; is = f.is; goes = inr (there, after) })
