@@ -1,0 +1,3 @@
+pub mod Doomed
+pub mod Laws
+pub mod Runs
