@@ -1,0 +1,6 @@
+pub mod Codes
+pub mod Goods
+pub mod Paths
+pub mod Removals
+pub mod Rows
+pub mod Starts
