@@ -1,0 +1,9 @@
+pub mod Attempts
+pub mod BodyBound
+pub mod Downloads
+pub mod FieldBounds
+pub mod Pieces
+pub mod ReaderSteps
+pub mod Tests
+pub mod Turns
+pub mod Verdicts

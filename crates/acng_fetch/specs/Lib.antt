@@ -1,0 +1,5 @@
+pub mod Events
+pub mod Fits
+pub mod Judges
+pub mod Law
+pub mod Orders
