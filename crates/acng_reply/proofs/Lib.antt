@@ -1,0 +1,5 @@
+pub mod Parting
+pub mod Parts
+mod Rows
+pub mod Sending
+pub mod Texts
