@@ -55,7 +55,7 @@ version_plain (suc (suc n)) h = absurd (omega arith)
 abbrev after_method : RequestHead → List ℕ
 after_method h = h.target ++ 32 ∷ print_version h.minor
 
-abbrev request_line : RequestHead → List ℕ
+abbrev pub request_line : RequestHead → List ℕ
 request_line h = h.method ++ 32 ∷ after_method h
 
 -- what is known of a head's parts, as tests
@@ -71,7 +71,7 @@ tested h k = record {
   target = list_all-from_AllPass is_uri_byte h.target k.target.1;
 }
 
-line_plain : (h : RequestHead) → IsRequestHead h → list_all is_plain (request_line h) ≡ true
+pub line_plain : (h : RequestHead) → IsRequestHead h → list_all is_plain (request_line h) ≡ true
 line_plain h k =
     let t = tested h k in
     all_append is_plain h.method (32 ∷ after_method h) (weaker is_token_byte is_plain token_plain h.method t.method)
@@ -91,7 +91,7 @@ some_line : (line : List ℕ) (e : LineEnd) (ls : List (List ℕ × LineEnd)) �
 some_line [] e ls h = absurd (omega arith)
 some_line (b ∷ line) e ls h = refl
 
-some_method : (m rest : List ℕ) → 0 < length m → 0 < length (m ++ rest)
+pub some_method : (m rest : List ℕ) → 0 < length m → 0 < length (m ++ rest)
 some_method [] rest h = absurd (omega arith)
 some_method (b ∷ m) rest h = omega arith
 
@@ -103,9 +103,16 @@ guess_blank [] text = refl
 guess_blank (crlf ∷ es) text = rw (guess_blank es text) refl
 guess_blank (lf ∷ es) text = rw (guess_blank es text) refl
 
-are_fields : (fs : List Field) → AllByRecursion IsField fs → AreFields fs
+pub are_fields : (fs : List Field) → AllByRecursion IsField fs → AreFields fs
 are_fields [] h = tt
 are_fields (f ∷ fs) h = (rw (le-leb 1 (length f.name) h.0.name.0, list_all-from_AllPass is_token_byte f.name h.0.name.1, list_all-from_AllPass is_value_byte f.raw h.0.raw) refl, are_fields fs h.1)
+
+-- the bytes of a head and what follows, by their lines
+pub request_shape : (h : RequestHead) (rest : List ℕ) → print_request h ++ rest ≡ print_blank h.blank ++ (request_line h ++ (print_end h.line_end ++ (print_section h.fields h.last ++ rest)))
+request_shape h rest =
+    let tail = print_section h.fields h.last ++ rest in
+    let shape : h.method ++ 32 ∷ (h.target ++ 32 ∷ (print_version h.minor ++ (print_end h.line_end ++ tail))) ≡ request_line h ++ (print_end h.line_end ++ tail) = simp append_assoc in
+    print_request-append h rest ∙ ap (λ t. print_blank h.blank ++ t) shape
 
 guess_reads : (h : RequestHead) (rest : List ℕ) → IsRequestHead h → guess (lines (print_request h ++ rest)) ≡ h
 guess_reads h rest k =
@@ -114,8 +121,7 @@ guess_reads h rest k =
     ap (λ t. fields_of (lines t)) (append_assoc (flat_map print_field h.fields) (print_end h.last) rest)
     ∙ fields_read h.fields h.last rest (are_fields h.fields (recursion_from_All IsField h.fields k.fields)) in
     let line : lines (request_line h ++ (print_end h.line_end ++ tail)) ≡ (request_line h, h.line_end) ∷ lines tail = line_first (request_line h) h.line_end tail (line_plain h k) in
-    let shape : h.method ++ 32 ∷ (h.target ++ 32 ∷ (print_version h.minor ++ (print_end h.line_end ++ tail))) ≡ request_line h ++ (print_end h.line_end ++ tail) = simp append_assoc in
-    ap (λ t. guess (lines t)) (print_request-append h rest ∙ ap (λ t. print_blank h.blank ++ t) shape)
+    ap (λ t. guess (lines t)) (request_shape h rest)
     ∙ guess_blank h.blank (request_line h ++ (print_end h.line_end ++ tail))
     ∙ ap (λ ls. with_blank h.blank (guess ls)) line
     ∙ ap (with_blank h.blank) (some_line (request_line h) h.line_end (lines tail) (some_method h.method (32 ∷ after_method h) k.method.0) ∙ line_guess h (lines tail) k fields)
@@ -168,7 +174,7 @@ guess_of : (block : List ℕ) (h : RequestHead) (rest : List ℕ) → ReadsReque
 guess_of block h rest r = ap (λ b. guess (lines b)) r.1 ∙ guess_reads h rest r.0
 
 -- a head at the front of the block is what the function gives
-request_reads : (block : List ℕ) (h : RequestHead) (rest : List ℕ) → ReadsRequest block h rest → request_of block ≡ Some h
+pub request_reads : (block : List ℕ) (h : RequestHead) (rest : List ℕ) → ReadsRequest block h rest → request_of block ≡ Some h
 request_reads block h rest r =
     let front : take (length (print_request h)) block ≡ print_request h = ap (take (length (print_request h))) r.1 ∙ take-append_seam (print_request h) rest in
     let test : begins_with block h ≡ true = rw (is_head h r.0, (bytes_eq-Decides (take (length (print_request h)) block) (print_request h)).1 front) refl in
@@ -199,7 +205,7 @@ inner_fields [] = refl
 inner_fields (([], e) ∷ ls) = inner_fields ls
 inner_fields ((b ∷ line, e) ∷ ls) = before_fields ls
 
-lines_are_fields : (block : List ℕ) (h : RequestHead) (rest : List ℕ) → ReadsRequest block h rest → inner_lines (lines block) ≡ length h.fields
+pub lines_are_fields : (block : List ℕ) (h : RequestHead) (rest : List ℕ) → ReadsRequest block h rest → inner_lines (lines block) ≡ length h.fields
 lines_are_fields block h rest r = inner_fields (lines block) ∙ ap (λ k. length k.fields) (guess_of block h rest r)
 
 -- ---- what the parser finds
@@ -234,7 +240,7 @@ pub head_few : (block : List ℕ) (headers : List HeaderSpan) (o : Option Reques
 head_few block headers None room h = tt
 head_few block headers (Some r) room h = (found_head block headers r h.0 room h.1).1
 
-pub head_none : (block : List ℕ) (o : Option RequestSpans) → IfNone o ((h : RequestHead) (rest : List ℕ) → length h.fields ≤ 64 → ReadsRequest block h rest → ⊥)
+pub head_none : (block : List ℕ) (room : ℕ) (o : Option RequestSpans) → 64 ≤ room → IfNone o ((h : RequestHead) (rest : List ℕ) → length h.fields ≤ room → ReadsRequest block h rest → ⊥)
     → IfNone o (inner_lines (lines block) ≤ 64 → head_of block ≡ None)
-head_none block None h = found_none block h
-head_none block (Some r) h = tt
+head_none block room None much h = found_none block (λ k rest few. h k rest (omega (arith, much, few)))
+head_none block room (Some r) much h = tt

@@ -1,4 +1,5 @@
 mod FieldLemmas
+mod HeadBlocks
 mod HeadLemmas
 mod LineLemmas
 mod MethodLemmas

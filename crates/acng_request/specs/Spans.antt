@@ -1,9 +1,8 @@
 -- What spans of a block say of its head, and what is said of a whole block.
-use Rattle.std.specs.Prelude.{◌≡◌, ℕ, List, [], ◌∷◌, map, Ok, Err, Result, ⊤}
+use Rattle.std.specs.Prelude.{◌≡◌, ℕ, List, map, Ok, Err, Result, ⊤}
 use Rattle.httparse.specs.declared.spans.HeaderSpan.{HeaderSpan}
 use Rattle.httparse.specs.declared.spans.RequestSpans.{RequestSpans}
-use Rattle.httparse.specs.Spans.{IsWithin, header_bytes, span_bytes}
-use Rattle.std.specs.Prelude.{length}
+use Rattle.httparse.specs.Spans.{header_bytes, span_bytes}
 use Rattle.acng_request.specs.RequestHeads.{Head}
 use Rattle.acng_request.specs.declared.got.Request.{Request}
 use Rattle.acng_request.specs.declared.got.HeadFault.{HeadFault}

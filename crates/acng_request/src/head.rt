@@ -1,11 +1,12 @@
 //! A whole head block as a request, or why it is none (RFC 9112, sections 2 to 6).
 //!
 //! `httparse` reads the block. Its lines are counted only where it doesn't: a head that it reads has a field a line, and
-//! at most 64 of them.
+//! at most 64 of them. A head of few fields is found at the front of what is held, before a block is looked for.
 ghost use Rattle.std.specs.Prelude.{◌≡◌, ◌≤◌, ℕ, List, length, map, take, nat_le, cond, All, Some, IfSome, IfNone, IfOk, codes};
 ghost use Rattle.httparse.specs.Grammar.{RequestHead, ReadsRequest};
 ghost use Rattle.httparse.specs.Spans.{IsRequestWithin, IsRequestOf, IsHeaderWithin, IsWithin, header_bytes};
 ghost use Rattle.acng_base.specs.Lines.{lines};
+ghost use Rattle.acng_request.specs.Blocks.{IsHeadBlock};
 ghost use Rattle.acng_request.specs.Nexts.{asked, is_served, judged, read_block};
 ghost use Rattle.acng_request.specs.RequestFields.{value_of};
 ghost use Rattle.acng_request.specs.RequestHeads.{head_of, inner_lines};
@@ -61,11 +62,22 @@ fn parse_head(block: &[u8], headers: &mut [HeaderSpan; 64]) -> Option<RequestSpa
     find_head(block, headers)
 }
 
-// The head that the grammar finds at the front of a block.
-fn find_head(block: &[u8], headers: &mut [HeaderSpan; 64]) -> Option<RequestSpans>
+/// The most fields of a head that is found at the front of what is held.
+pub const FEW_FIELDS: usize = 16;
+
+/// The head of few fields that stands at the front of the bytes held.
+pub fn front_head(bytes: &[u8], headers: &mut [HeaderSpan; FEW_FIELDS]) -> Option<RequestSpans>
+    requires { length bytes.now ≤ 16384 }
+    ensures { IfSome result (IsHeadBlock bytes.now headers.new) }
+{
+    find_head(bytes, headers)
+}
+
+// The head that the grammar finds at the front of the bytes.
+fn find_head(block: &[u8], headers: &mut [HeaderSpan]) -> Option<RequestSpans>
     ensures within { IfSome result (IsRequestWithin block.now headers.new) }
     ensures some { IfSome result (IsRequestOf block.now headers.new) }
-    ensures none { IfNone result ((h : RequestHead) (rest : List ℕ) → length h.fields ≤ 64 → ReadsRequest block.now h rest → ⊥) }
+    ensures none { IfNone result ((h : RequestHead) (rest : List ℕ) → length h.fields ≤ length headers.old → ReadsRequest block.now h rest → ⊥) }
 {
     match parse_request(block, headers) {
         Ok(Status::Complete(head)) => Some(head),
@@ -84,8 +96,8 @@ fn fault_of(block: &[u8]) -> HeadFault
     }
 }
 
-// What the parts of a head say.
-fn judge_head(
+/// What the parts of a head say.
+pub fn judge_head(
     alloc: Global,
     block: &[u8],
     head: RequestSpans,

@@ -4,7 +4,7 @@
 //! matter of the status: a field of a `ReplyHead` that its status has no line for is passed over. So the text is a
 //! function of the head, and of the text of its date, for every mix of fields. The text is at most 640 bytes long: the
 //! longest tag has 256, a number 20 and a date 29. No memory is taken.
-ghost use Rattle.std.specs.Prelude.{◌≡◌, ◌+◌, ◌≤◌, List, ℕ, ◌++◌, [], true, Some, take, length, unwrap_or, decimal};
+ghost use Rattle.std.specs.Prelude.{◌≡◌, ◌+◌, ◌≤◌, List, ℕ, ◌++◌, [], true, Some, take, length, unwrap_or, codes, decimal};
 ghost use Rattle.http.specs.StatusCode.{reason_phrase};
 ghost use Rattle.acng_request.specs.ReplyHeads.{is_reply_status, IsWritable, IsDateOf, has_file, status_line, kind_text, type_line, framing_line, part_text, part_line, no_part_line, modified_line, tag_line, allow_line, connection_line, ended, head_text};
 
@@ -96,7 +96,21 @@ fn date_of(modified: Option<Moment>) -> [u8; 29]
 // Each writes its line with its end from the place `at` on, or nothing, and answers the place after it. Their bounds
 // add up to less than 640 bytes with the empty line, so each has room.
 
+// The statuses of a file are written at once.
 fn put_status(out: &mut [u8; 1024], status: u16) -> usize
+    requires { is_reply_status status ≡ true }
+    ensures text { take result out.new ≡ ended (status_line status) }
+    ensures short { result ≤ 63 }
+{
+    match status {
+        200 => put(out, 0, b"HTTP/1.1 200 OK\r\n"),
+        206 => put(out, 0, b"HTTP/1.1 206 Partial Content\r\n"),
+        304 => put(out, 0, b"HTTP/1.1 304 Not Modified\r\n"),
+        _ => put_other_status(out, status),
+    }
+}
+
+fn put_other_status(out: &mut [u8; 1024], status: u16) -> usize
     requires { is_reply_status status ≡ true }
     ensures text { take result out.new ≡ ended (status_line status) }
     ensures short { result ≤ 63 }
@@ -116,7 +130,19 @@ fn put_type(out: &mut [u8; 1024], at: usize, status: u16, kind: Kind) -> usize
     if status == 304 {
         return at;
     }
-    put_line(out, at, b"Content-Type: ", kind_name(kind))
+    put_kind(out, at, kind)
+}
+
+fn put_kind(out: &mut [u8; 1024], at: usize, kind: Kind) -> usize
+    requires { at ≤ 700 }
+    ensures text { take result out.new ≡ take at out.old ++ ended (Some (codes "Content-Type: " ++ kind_text kind)) }
+    ensures short { result ≤ at + 40 }
+{
+    match kind {
+        Kind::File => put(out, at, b"Content-Type: application/octet-stream\r\n"),
+        Kind::Plain => put(out, at, b"Content-Type: text/plain\r\n"),
+        Kind::Html => put(out, at, b"Content-Type: text/html\r\n"),
+    }
 }
 
 fn put_framing(out: &mut [u8; 1024], at: usize, status: u16, framing: Framing) -> usize
@@ -129,7 +155,7 @@ fn put_framing(out: &mut [u8; 1024], at: usize, status: u16, framing: Framing) -
     }
     match framing {
         Framing::Length(length) => put_number_line(out, at, b"Content-Length: ", length),
-        Framing::Chunked => put_line(out, at, b"Transfer-Encoding: ", b"chunked"),
+        Framing::Chunked => put(out, at, b"Transfer-Encoding: chunked\r\n"),
         Framing::ToEnd => at,
     }
 }
@@ -216,7 +242,7 @@ fn put_allow(out: &mut [u8; 1024], at: usize, status: u16) -> usize
     if status != 405 {
         return at;
     }
-    put_line(out, at, b"Allow: ", b"GET, HEAD")
+    put(out, at, b"Allow: GET, HEAD\r\n")
 }
 
 fn put_connection(out: &mut [u8; 1024], at: usize, close: bool) -> usize
@@ -225,9 +251,9 @@ fn put_connection(out: &mut [u8; 1024], at: usize, close: bool) -> usize
     ensures short { result ≤ at + 24 }
 {
     if close {
-        put_line(out, at, b"Connection: ", b"close")
+        put(out, at, b"Connection: close\r\n")
     } else {
-        put_line(out, at, b"Connection: ", b"keep-alive")
+        put(out, at, b"Connection: keep-alive\r\n")
     }
 }
 
@@ -245,17 +271,6 @@ fn reason(status: u16) -> &'static [u8]
     match code.canonical_reason() {
         Some(reason) => reason.as_bytes(),
         None => b"",
-    }
-}
-
-fn kind_name(kind: Kind) -> &'static [u8]
-    ensures text { result.now ≡ kind_text kind }
-    ensures short { length result.now ≤ 24 }
-{
-    match kind {
-        Kind::File => b"application/octet-stream",
-        Kind::Plain => b"text/plain",
-        Kind::Html => b"text/html",
     }
 }
 

@@ -25,7 +25,7 @@ returns-in-End-clause-block g c =
     let inv = c.pieces.invariant in
     let scanned = c.pieces.scanned in
     let P : List ℕ → Type 0 = λ t. Scans c.pieces.state (take (length t - scanned) (drop scanned t)) (End c.in-End.len) in
-    found_block c.pieces.buf scanned c.in-End.len c.pieces.state inv.scanned c.as_bytes.ensures.few inv.state (subst P c.as_bytes.ensures.bytes c.in-End.ensures.scans)
+    found_block c.pieces.buf scanned c.in-End.len c.pieces.state inv.scanned c.as_bytes-in-pieces.ensures.few inv.state (subst P c.as_bytes-in-pieces.ensures.bytes c.in-End.ensures.scans)
 
 pub returns-then-is_full-clause-block : goal.returns-then-is_full-clause-block
 returns-then-is_full-clause-block g c =
@@ -33,13 +33,13 @@ returns-then-is_full-clause-block g c =
     let P : List ℕ → Type 0 = λ t. Scans c.pieces.state (take (length t - scanned) (drop scanned t)) (Incomplete c.in-Incomplete.next) in
     let full : (length c.pieces.buf == 16384) ≡ true = sym c.is_full.ensures.full ∙ c.if-is_full.true in
     next_long c.pieces.buf c.in-Incomplete.next (eqb-true (length c.pieces.buf) 16384 full)
-    (scanned_all c.pieces.buf scanned c.pieces.state c.in-Incomplete.next c.pieces.invariant.state (subst P c.as_bytes.ensures.bytes c.in-Incomplete.ensures.scans))
+    (scanned_all c.pieces.buf scanned c.pieces.state c.in-Incomplete.next c.pieces.invariant.state (subst P c.as_bytes-in-pieces.ensures.bytes c.in-Incomplete.ensures.scans))
 
 pub returns-in_err-fill-clause-undecided : goal.returns-in_err-fill-clause-undecided
 returns-in_err-fill-clause-undecided g c =
     let scanned = c.pieces.scanned in
     let P : List ℕ → Type 0 = λ t. Scans c.pieces.state (take (length t - scanned) (drop scanned t)) (Incomplete c.in-Incomplete.next) in
-    let ends = undecided c.pieces.buf scanned c.pieces.state c.in-Incomplete.next c.is_full.ensures.few (sym c.is_full.ensures.full ∙ c.if-is_full.false) c.pieces.invariant.state (subst P c.as_bytes.ensures.bytes c.in-Incomplete.ensures.scans) in
+    let ends = undecided c.pieces.buf scanned c.pieces.state c.in-Incomplete.next c.is_full.ensures.few (sym c.is_full.ensures.full ∙ c.if-is_full.false) c.pieces.invariant.state (subst P c.as_bytes-in-pieces.ensures.bytes c.in-Incomplete.ensures.scans) in
     let p = err_from_is_err_and c.from_residual.result c.from_residual.ensures.1 in
     rw p.1 (ap next c.in_err-fill.ensures.bytes.0 ∙ ends)
 
@@ -47,14 +47,14 @@ pub returns-in_err-fill-clause-reads : goal.returns-in_err-fill-clause-reads
 returns-in_err-fill-clause-reads g c =
     let scanned = c.pieces.scanned in
     let P : List ℕ → Type 0 = λ t. Scans c.pieces.state (take (length t - scanned) (drop scanned t)) (Incomplete c.in-Incomplete.next) in
-    let ends = undecided c.pieces.buf scanned c.pieces.state c.in-Incomplete.next c.is_full.ensures.few (sym c.is_full.ensures.full ∙ c.if-is_full.false) c.pieces.invariant.state (subst P c.as_bytes.ensures.bytes c.in-Incomplete.ensures.scans) in
+    let ends = undecided c.pieces.buf scanned c.pieces.state c.in-Incomplete.next c.is_full.ensures.few (sym c.is_full.ensures.full ∙ c.if-is_full.false) c.pieces.invariant.state (subst P c.as_bytes-in-pieces.ensures.bytes c.in-Incomplete.ensures.scans) in
     reads_failed g.L.Link c.args.link.now c.pieces.link c.fill.new.link c.args.buf.now c.pieces.buf c.pieces.invariant.moved c.in_err-fill.ensures.bytes.1 ends
 
 pub returns-then-branch-eq0-clause-block : goal.returns-then-branch-eq0-clause-block
 returns-then-branch-eq0-clause-block g c =
     let scanned = c.pieces.scanned in
     let P : List ℕ → Type 0 = λ t. Scans c.pieces.state (take (length t - scanned) (drop scanned t)) (Incomplete c.in-Incomplete.next) in
-    let ends = undecided c.pieces.buf scanned c.pieces.state c.in-Incomplete.next c.is_full.ensures.few (sym c.is_full.ensures.full ∙ c.if-is_full.false) c.pieces.invariant.state (subst P c.as_bytes.ensures.bytes c.in-Incomplete.ensures.scans) in
+    let ends = undecided c.pieces.buf scanned c.pieces.state c.in-Incomplete.next c.is_full.ensures.few (sym c.is_full.ensures.full ∙ c.if-is_full.false) c.pieces.invariant.state (subst P c.as_bytes-in-pieces.ensures.bytes c.in-Incomplete.ensures.scans) in
     let fills = c.in_ok-fill.ensures.bytes in
     no_more c.pieces.buf c.fill.new.self fills.0.bytes fills.0.added (omega (arith, fills.1, c.if-branch-eq0.true)) ends
 
@@ -62,7 +62,7 @@ pub returns-then-branch-eq0-clause-reads : goal.returns-then-branch-eq0-clause-r
 returns-then-branch-eq0-clause-reads g c =
     let scanned = c.pieces.scanned in
     let P : List ℕ → Type 0 = λ t. Scans c.pieces.state (take (length t - scanned) (drop scanned t)) (Incomplete c.in-Incomplete.next) in
-    let ends = undecided c.pieces.buf scanned c.pieces.state c.in-Incomplete.next c.is_full.ensures.few (sym c.is_full.ensures.full ∙ c.if-is_full.false) c.pieces.invariant.state (subst P c.as_bytes.ensures.bytes c.in-Incomplete.ensures.scans) in
+    let ends = undecided c.pieces.buf scanned c.pieces.state c.in-Incomplete.next c.is_full.ensures.few (sym c.is_full.ensures.full ∙ c.if-is_full.false) c.pieces.invariant.state (subst P c.as_bytes-in-pieces.ensures.bytes c.in-Incomplete.ensures.scans) in
     reads_on g.L.Link c.args.link.now c.pieces.link c.fill.new.link c.args.buf.now c.pieces.buf c.fill.new.self c.pieces.invariant.moved c.in_ok-fill.ensures.bytes.0 ends
 
 pub returns-then-branch-eq0-clause-moved : goal.returns-then-branch-eq0-clause-moved
@@ -77,7 +77,7 @@ pieces-preserved g c =
     let scanned = c.pieces.scanned in
     let inv = c.pieces.invariant in
     let P : List ℕ → Type 0 = λ t. Scans c.pieces.state (take (length t - scanned) (drop scanned t)) (Incomplete c.in-Incomplete.next) in
-    let scans = subst P c.as_bytes.ensures.bytes c.in-Incomplete.ensures.scans in
+    let scans = subst P c.as_bytes-in-pieces.ensures.bytes c.in-Incomplete.ensures.scans in
     let ends = undecided c.pieces.buf scanned c.pieces.state c.in-Incomplete.next c.is_full.ensures.few (sym c.is_full.ensures.full ∙ c.if-is_full.false) inv.state scans in
     let fills = c.in_ok-fill.ensures.bytes in
     let size : length c.as_bytes-scanned.result.now ≡ length c.pieces.buf = ap length c.as_bytes-scanned.ensures.bytes in
