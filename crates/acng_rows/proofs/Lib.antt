@@ -6,3 +6,5 @@ pub mod Removals
 pub mod Starts
 pub mod Lists
 pub mod Names
+pub mod Changes
+pub mod Faithful

@@ -208,10 +208,10 @@ none_under n rows path w is at = no_whole rows path w is at
 
 module _ (next id : ℕ) (h : Head) (rows : Rows) (small : id < next) (reads : IsHead h) (a : AreFound next rows)
     (under : (path : List ℕ) (w : Whole) → whole_at rows path ≡ Some w → w.id < id) where
-  abbrev new : Rows
-  new = map.insert rows h.path (row_of id h)
+  abbrev grown : Rows
+  grown = map.insert rows h.path (row_of id h)
 
-  by : {P : Type 0} (q : List ℕ) (x : Whole) → whole_at new q ≡ Some x → (q ≡ h.path → whole_of id h ≡ x → P)
+  by : {P : Type 0} (q : List ℕ) (x : Whole) → whole_at grown q ≡ Some x → (q ≡ h.path → whole_of id h ≡ x → P)
       → (q ≢ h.path → whole_at rows q ≡ Some x → P) → P
   by q x at here there = by_case (at_put rows h.path (row_of id h) q x at) here there
     where
@@ -229,7 +229,7 @@ module _ (next id : ℕ) (h : Head) (rows : Rows) (small : id < next) (reads : I
   out_case true o is = refl
   out_case false o is = is
 
-  put_found : AreFound next new
+  put_found : AreFound next grown
   put_found = record {
     heads = λ path w at. by path w at
         (λ e f. subst (λ (x : Whole). IsHead (head_of path x)) f (subst (λ p. IsHead (head_of p (whole_of id h))) (sym e) reads))
@@ -250,7 +250,7 @@ module _ (next id : ℕ) (h : Head) (rows : Rows) (small : id < next) (reads : I
     outs = λ path. out-insert rows h.path (row_of id h) path ∙ out_case (tie path h.path) (out_at rows path) (a.outs path);
   }
 
-  put_under : (n : ℕ) → id < n → (path : List ℕ) (w : Whole) → whole_at new path ≡ Some w → w.id < n
+  put_under : (n : ℕ) → id < n → (path : List ℕ) (w : Whole) → whole_at grown path ≡ Some w → w.id < n
   put_under n later path w at = by path w at (λ e f. subst (λ (x : Whole). x.id < n) f later)
       (λ not was. let i : w.id < id = under path w was in omega (arith, i, later))
 

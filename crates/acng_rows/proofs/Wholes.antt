@@ -7,7 +7,7 @@ use Rattle.std.specs.FinMap.{slice_cmp-IsAntisymmetric, nat_cmp-IsAntisymmetric}
 use Rattle.std.specs.Cmp.Lexicographic.{nat_list_cmp_total}
 use Rattle.acng_rows.specs.declared.row.Whole.{Whole}
 use Rattle.acng_rows.specs.Paths.{PathsTo}
-use Rattle.acng_rows.specs.Rows.{Rows, Row, whole_in, out_in, whole_at, out_at}
+use Rattle.acng_rows.specs.Rows.{Rows, Row, whole_in, out_in, whole_at, out_at, id_in_whole, with_whole, without_whole}
 use Rattle.acng_rows.proofs.Points.{tie, tied, untied, tie_self, got-insert, got-remove}
 
 whole_case : (b : Bool) (r : Row) (o : Option Row) → whole_in (cond b (Some r) o) ≡ cond b r.whole (whole_in o)
@@ -109,3 +109,35 @@ module _ {X : Type 0} (m : PathsTo X) (k : List ℕ) where
   twice v w = map.same_map nat_list_cmp_total (slice_cmp-IsAntisymmetric nat_cmp-IsAntisymmetric) _ _ (λ q.
       got-insert (map.insert m k v) k w q ∙ ap (cond (tie q k) (Some w)) (got-insert m k v q)
       ∙ twice_case v w (map.get m q) (tie q k) ∙ sym (got-insert m k w q))
+
+-- ---- a path without its whole body
+
+pub off_less : (rows : Rows) (k q : List ℕ) → q ≢ k → whole_at (map.remove rows k) q ≡ whole_at rows q
+off_less rows k q not = whole-remove rows k q ∙ off_case q k None (whole_at rows q) (tie q k) refl not
+
+without_case : (rows : Rows) (k : List ℕ) (b : Bool) (q : List ℕ) (x : Whole) → whole_at
+    (cond b (with_whole rows k None) (map.remove rows k)) q ≡ Some x
+    → (q ≢ k) × (whole_at rows q ≡ Some x)
+without_case rows k false q x is = at_less rows k q x is
+without_case rows k true q x is = by (at_put rows k (record { whole = None; out = out_at rows k }) q x is)
+  where
+    by : ((q ≡ k) × (None ≡ Some x)) ⊎ ((q ≢ k) × (whole_at rows q ≡ Some x)) → (q ≢ k) × (whole_at rows q ≡ Some x)
+    by (inl e) = absurd (true≢false (sym (ap is_some e.1)))
+    by (inr e) = e
+
+pub without_less : (rows : Rows) (k q : List ℕ) (x : Whole) → whole_at (without_whole rows k) q ≡ Some x
+    → (q ≢ k) × (whole_at rows q ≡ Some x)
+without_less rows k q x is = without_case rows k (is_some (out_at rows k)) q x is
+
+others_case : (rows : Rows) (k : List ℕ) (b : Bool) (q : List ℕ) → q ≢ k → whole_at
+    (cond b (with_whole rows k None) (map.remove rows k)) q ≡ whole_at rows q
+others_case rows k true q not = off_whole rows k (record { whole = None; out = out_at rows k }) q not
+others_case rows k false q not = off_less rows k q not
+
+pub without_others : (rows : Rows) (k q : List ℕ) → q ≢ k → whole_at (without_whole rows k) q ≡ whole_at rows q
+without_others rows k q not = others_case rows k (is_some (out_at rows k)) q not
+
+-- a whole body that has an id is there
+pub is_there : (o : Option Whole) → is_some (id_in_whole o) ≡ true → (w : Whole) × (o ≡ Some w)
+is_there None is = absurd (true≢false (sym is))
+is_there (Some w) is = (w, refl)

@@ -7,7 +7,7 @@ use Rattle.acng_head.specs.declared.head.Label.{Label}
 use Rattle.acng_head.specs.Records.{IsHead, record_text}
 use Rattle.acng_keeper.specs.Kept.{Kept, Stored, stored}
 use Rattle.acng_rows.specs.declared.row.Whole.{Whole}
-use Rattle.acng_rows.specs.Rows.{Rows, head_of, whole_at}
+use Rattle.acng_rows.specs.Rows.{Rows, head_of, whole_of, whole_at}
 
 -- ---- good heads
 
@@ -95,9 +95,41 @@ pub record WasGood (s : Stored) (id : ℕ) (h : Head) (text : List ℕ) : Type 0
 pub record GoodsStay (s t : Stored) : Type 0 where
   pub each : (id : ℕ) (h : Head) (text : List ℕ) → IsGood t id h text → WasGood s id h text
 
--- none but of this file
-pub record GoodsCome (core : Core) (text : List ℕ) (s t : Stored) : Type 0 where
-  pub each : (id : ℕ) (h : Head) (x : List ℕ) → IsGood t id h x → WasGood s id h x ⊎ ((core_of h ≡ core) × (x ≡ text))
+-- none came but of a file that may come
+pub record GoodsCome (come : Core → List ℕ → Type 0) (s t : Stored) : Type 0 where
+  pub each : (id : ℕ) (h : Head) (text : List ℕ) → IsGood t id h text → WasGood s id h text ⊎ come (core_of h) text
+
+-- no file may come
+abbrev pub none_comes : Core → List ℕ → Type 0
+none_comes core text = ⊥
+
+-- the keeper has the sealed body, of its size
+pub record HasBody (k : Kept) (w : Whole) : Type 0 where
+  pub text : List ℕ
+  pub body : map.get k.bodies w.id ≡ Some text
+  pub size : length text ≡ w.size
+
+-- the file of this whole body may come
+abbrev pub whole_comes : List ℕ → Whole → Kept → Core → List ℕ → Type 0
+whole_comes path w k core text = (core ≡ core_of (head_of path w)) × (map.get k.bodies w.id ≡ Some text)
+
+-- ---- exactly the rows
+
+-- the whole body has a good head of its path
+pub record HasGood (s : Stored) (path : List ℕ) (w : Whole) : Type 0 where
+  pub text : List ℕ
+  pub good : IsGood s w.id (head_of path w) text
+
+-- the good heads are those of the rows and no other
+pub record IsExact (rows : Rows) (s : Stored) : Type 0 where
+  pub each : (path : List ℕ) (w : Whole) → whole_at rows path ≡ Some w → HasGood s path w
+  pub only : (id : ℕ) (h : Head) (text : List ℕ) → IsGood s id h text → whole_at rows h.path ≡ Some (whole_of id h)
+
+-- What stands between two rows: no good head came but of a file that may come, and where there were exactly the rows, a
+-- start finds these or the new ones.
+pub record IsBetween (come : Core → List ℕ → Type 0) (rows new : Rows) (s t : Stored) : Type 0 where
+  pub goods : GoodsCome come s t
+  pub stands : IsExact rows s → StandsFor rows t ⊎ StandsFor new t
 
 -- no head that reads is of an unsealed body
 pub record AreSealed (k : Kept) : Type 0 where

@@ -1,5 +1,5 @@
 -- Removals from a keeper, in order.
-use Rattle.std.specs.Prelude.{◌≡◌, ◌≢◌, ◌⊎◌, ℕ, false, List, [], ◌∷◌}
+use Rattle.std.specs.Prelude.{◌≡◌, ◌≢◌, ◌⊎◌, ℕ, false, List, [], ◌∷◌, Option, None, Some}
 use Rattle.std.specs.FinMap as map
 use Rattle.acng_keeper.specs.declared.effect.Effect.{Effect}
 use Rattle.acng_keeper.specs.declared.effect.Effect.TheVariants.{HeadRemoved, BodyRemoved}
@@ -20,6 +20,11 @@ id_in (removal.Body id) = id
 abbrev pub effects_of : List Removal → List Effect
 effects_of [] = []
 effects_of (r ∷ rs) = effect_of r ∷ effects_of rs
+
+-- the head and the body of this id, if there is one
+abbrev pub both_of : Option ℕ → List Removal
+both_of None = []
+both_of (Some id) = removal.Head id ∷ removal.Body id ∷ []
 
 -- what effects leave of the unsealed bodies
 abbrev pub loose_by : List Effect → IdSet → IdSet

@@ -1,5 +1,5 @@
 -- The rows of a cache as contracts see them, and what calls make of them.
-use Rattle.std.specs.Prelude.{ℕ, Bool, cond, ◌||◌, is_some, List, Option, None, Some}
+use Rattle.std.specs.Prelude.{ℕ, ◌^◌, ◌<◌, Bool, cond, ◌||◌, is_some, List, Option, None, Some, IfSome}
 use Rattle.std.specs.FinMap as map
 use Rattle.acng_head.specs.declared.head.Head.{Head}
 use Rattle.acng_head.specs.declared.head.Label.{Label}
@@ -56,10 +56,23 @@ whole_of id h = record {
 abbrev pub row_of : ℕ → Head → Row
 row_of id h = record { whole = Some (whole_of id h); out = None }
 
+abbrev pub id_in_whole : Option Whole → Option ℕ
+id_in_whole None = None
+id_in_whole (Some w) = Some w.id
+
 -- with another moment
 abbrev pub stamped : Stamp → Whole → Whole
 stamped (Checked now) w = record w { checked = now }
 stamped (Mark mark) w = record w { mark = mark }
+
+-- what the type of a moment says
+abbrev pub StampFits : Stamp → Type 0
+StampFits (Checked now) = now.0 < 2 ^ 64
+StampFits (Mark mark) = IfSome mark (λ m. m.0 < 2 ^ 64)
+
+abbrev pub stamped_in : Stamp → Option Whole → Option Whole
+stamped_in stamp None = None
+stamped_in stamp (Some w) = Some (stamped stamp w)
 
 -- ---- what the row of a path has
 
@@ -90,6 +103,10 @@ with_out rows path out = map.insert rows path (record { whole = whole_at rows pa
 -- nothing is out any more. A row with no whole body goes, unless something else of the path is to stay.
 abbrev pub closed : Rows → List ℕ → Bool → Rows
 closed rows path stays = cond (stays || is_some (whole_at rows path)) (with_out rows path None) (map.remove rows path)
+
+-- its whole body has another moment
+abbrev pub restamped : Stamp → Rows → List ℕ → Rows
+restamped stamp rows path = with_whole rows path (stamped_in stamp (whole_at rows path))
 
 -- it has no whole body any more. A row of which nothing is out goes.
 abbrev pub without_whole : Rows → List ℕ → Rows

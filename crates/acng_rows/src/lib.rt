@@ -6,6 +6,8 @@
 //! `find_rows` reads the rows back from stored heads and bodies.
 #![tactic(auto)]
 
+mod change;
+mod fault;
 mod find;
 mod found;
 mod id_set;
@@ -17,10 +19,12 @@ mod row_map;
 mod stamp;
 mod whole;
 
+pub use change::{hold, let_go, restamp};
+pub use fault::RowFault;
 pub use find::{Found, find_rows};
 pub use id_set::IdSet;
 pub use path_map::PathMap;
-pub use put::put_whole;
+pub use put::{put_stamped, put_whole};
 pub use removal::{Removal, remove_all};
 pub use row::{Out, Row, Whole};
 pub use stamp::Stamp;

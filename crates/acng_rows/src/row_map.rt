@@ -1,11 +1,13 @@
 //! Changes of a path's row. None but `reserve` takes memory.
-ghost use Rattle.std.specs.Prelude.{◌≡◌, true, not, OnOk, OnErr, IfOk, is_some, option_copied};
+ghost use Rattle.std.specs.Prelude.{◌≡◌, true, not, Some, OnOk, OnErr, IfOk, is_some, option_copied};
 ghost use Rattle.std.specs.Option.{option_map};
 ghost use Rattle.std.specs.FinMap as map;
-ghost use Rattle.acng_rows.specs.Rows.{whole_in, out_in, with_whole, with_out, closed, without_whole, reserved, released};
+ghost use Rattle.acng_rows.specs.Rows.{whole_in, out_in, whole_at, id_in_whole, stamped_in};
+ghost use Rattle.acng_rows.specs.Rows.{with_whole, with_out, restamped, closed, without_whole, reserved, released};
 
 use crate::path_map::PathMap;
 use crate::row::{Out, Row, Whole};
+use crate::stamp::Stamp;
 use acng_base::{CachePath, NoMemory};
 use std::alloc::Global;
 
@@ -24,6 +26,26 @@ fn has_out<T>(row: Option<&Row<T>>) -> bool
     match row {
         Some(row) => row.out.is_some(),
         None => false,
+    }
+}
+
+/// The id of a row's whole body.
+pub(crate) fn whole_id<T>(row: Option<&Row<T>>) -> Option<u64>
+    ensures { result ≡ id_in_whole (whole_in (option_copied row.entry)) }
+{
+    let row = row?;
+    match &row.whole {
+        Some(whole) => Some(whole.id),
+        None => None,
+    }
+}
+
+fn stamped(whole: Option<Whole>, stamp: Stamp) -> Option<Whole>
+    ensures { result ≡ stamped_in stamp whole }
+{
+    match whole {
+        Some(whole) => Some(whole.stamped(stamp)),
+        None => None,
     }
 }
 
@@ -48,6 +70,33 @@ impl<T: Drop> PathMap<Row<T>> {
             Some(row) => row.whole = whole,
             None => unreachable!(),
         }
+    }
+
+    /// Gives a row this whole body, and the id of the one that it had.
+    pub fn swap_whole(&mut self, path: &CachePath, whole: Whole) -> Option<u64>
+        requires { map.contains_key self.old path.now ≡ true }
+        ensures rows { self.new ≡ with_whole self.old path.now (Some whole) }
+        ensures old { result ≡ id_in_whole (whole_at self.old path.now) }
+    {
+        let old = whole_id(self.get(path));
+        self.set_whole(path, Some(whole));
+        old
+    }
+
+    /// Gives the whole body of a row another moment.
+    pub fn stamp(&mut self, path: &CachePath, stamp: Stamp)
+        requires { map.contains_key self.old path.now ≡ true }
+        ensures { self.new ≡ restamped stamp self.old path.now }
+    {
+        let Row { whole, out } = self.swap(
+            path,
+            Row {
+                whole: None,
+                out: None,
+            },
+        );
+        let whole = stamped(whole, stamp);
+        let _ = self.swap(path, Row { whole, out });
     }
 
     /// No ticket of the path is out any more. A row with no whole body goes, unless something else is to stay.

@@ -67,6 +67,21 @@ impl Whole {
         }
     }
 
+    /// Its head at a path, with another moment.
+    pub fn stamped_head(&self, path: CachePath, stamp: Stamp) -> Head
+        requires { IfSome self.now.tag (λ t. is_tag t ≡ true) }
+        ensures { result ≡ head_of path (stamped stamp self.now) }
+    {
+        let head = self.head(path);
+        match stamp {
+            Stamp::Checked(now) => Head {
+                checked: now,
+                ..head
+            },
+            Stamp::Mark(mark) => Head { mark, ..head },
+        }
+    }
+
     /// The same with another moment.
     pub fn stamped(self, stamp: Stamp) -> Whole
         ensures { result ≡ stamped stamp self }

@@ -1,0 +1,26 @@
+-- When calls on a row are refused.
+use Rattle.std.specs.Prelude.{◌≡◌, true, is_some, Option, None}
+use Rattle.acng_keeper.specs.Slips.{Faults, HasFailed}
+use Rattle.acng_keeper.specs.declared.slip.KeepFault.{KeepFault}
+use Rattle.acng_keeper.specs.declared.slip.KeepFault.TheVariants as keep
+use Rattle.acng_rows.specs.declared.row.Whole.{Whole}
+use Rattle.acng_rows.specs.Rows.{Rows}
+use Rattle.acng_rows.specs.declared.fault.RowFault.{RowFault}
+use Rattle.acng_rows.specs.declared.fault.RowFault.TheVariants as fault
+
+-- the fault of a call of the keeper, as that of a call on a row
+abbrev pub row_fault : {P : Type 0} → KeepFault P → RowFault P
+row_fault (keep.Slip p) = fault.KeeperFault p
+row_fault keep.NoMemory = fault.NoMemory
+
+-- The path has no whole body, or a call of the keeper failed; want of memory is free. But for NotHeld it has one.
+abbrev pub RowRose : {P : Type 0} → RowFault P → Option Whole → Faults → Faults → Type 0
+RowRose fault.NotHeld whole old new = whole ≡ None
+RowRose (fault.KeeperFault p) whole old new = HasFailed old new × (is_some whole ≡ true)
+RowRose fault.NoMemory whole old new = is_some whole ≡ true
+
+-- the rows are as they were where the path had no whole body, and else as after Ok
+abbrev pub LeavesRow : {P : Type 0} → RowFault P → Rows → Rows → Rows → Type 0
+LeavesRow fault.NotHeld rows done new = new ≡ rows
+LeavesRow (fault.KeeperFault p) rows done new = new ≡ done
+LeavesRow fault.NoMemory rows done new = new ≡ done
