@@ -1,3 +1,4 @@
+pub mod Fronts
 pub mod Parting
 pub mod Parts
 mod Rows
