@@ -1,3 +1,4 @@
+pub mod Brokens
 pub mod Fronts
 pub mod Parting
 pub mod Parts

@@ -68,11 +68,11 @@ abbrev pub one : List ℕ → List (List ℕ)
 one [] = []
 one (b ∷ bs) = (b ∷ bs) ∷ []
 
-one_some : (body : List ℕ) → AreSome (one body)
+pub one_some : (body : List ℕ) → AreSome (one body)
 one_some [] = tt
 one_some (b ∷ bs) = (omega arith, tt)
 
-one_cut : (body : List ℕ) → concat (one body) ≡ body
+pub one_cut : (body : List ℕ) → concat (one body) ≡ body
 one_cut [] = refl
 one_cut (b ∷ bs) = append-nil (b ∷ bs)
 
