@@ -1,1 +1,4 @@
 mod Rows
+pub mod Sets
+pub mod Bases
+pub mod Orders

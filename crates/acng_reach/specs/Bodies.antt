@@ -1,18 +1,31 @@
 -- The held bodies as reach reads them.
-use Rattle.std.specs.Prelude.{◌≡◌, ℕ, Bool, true, List, [], ◌∷◌, cond, Option, Some, None}
+use Rattle.std.specs.Prelude.{◌≡◌, ◌-◌, ℕ, Bool, true, List, [], ◌∷◌, length, cond, Option, Some, None}
+use Rattle.std.specs.List.{slice_get}
 use Rattle.std.specs.Ordering.{nat_cmp, is_lt}
 use Rattle.std.specs.Cmp.Lexicographic.{slice_cmp}
+use Rattle.acng_base.specs.Paths.{path_refusal}
 use Rattle.acng_keeper.specs.declared.slip.KeepFault.{KeepFault}
 use Rattle.acng_keeper.specs.declared.slip.KeepFault.TheVariants.{Slip, NoMemory}
+use Rattle.acng_reach.specs.Sets.{among}
 
-abbrev pub is_above : Option (List ℕ) → List ℕ → Bool
-is_above None path = true
-is_above (Some after) path = is_lt (slice_cmp nat_cmp after path)
+-- the second text is above the first, in byte order
+abbrev pub is_above : List ℕ → List ℕ → Bool
+is_above text other = is_lt (slice_cmp nat_cmp text other)
 
--- the first of these paths that is above another, or the first of all
+abbrev pub first_where : (List ℕ → Bool) → List (List ℕ) → Option (List ℕ)
+first_where test [] = None
+first_where test (p ∷ ps) = cond (test p) (Some p) (first_where test ps)
+
+-- the first of these paths, or the first above another
 abbrev pub first_above : Option (List ℕ) → List (List ℕ) → Option (List ℕ)
-first_above after [] = None
-first_above after (p ∷ ps) = cond (is_above after p) (Some p) (first_above after ps)
+first_above None paths = first_where (λ _. true) paths
+first_above (Some after) paths = first_where (is_above after) paths
+
+abbrev pub last_of : List (List ℕ) → Option (List ℕ)
+last_of paths = slice_get paths (length paths - 1)
+
+pub record ArePaths (paths : List (List ℕ)) : Type 0 where
+  pub each : (path : List ℕ) → among path paths ≡ true → path_refusal path ≡ None
 
 -- a slip comes only where calls may fail; want of memory is free
 abbrev pub MaySlip : {P : Type 0} → Bool → KeepFault P → Type 0

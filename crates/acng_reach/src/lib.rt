@@ -4,6 +4,11 @@
 //! problem of its folder, so that nobody removes files because an index was lost.
 #![tactic(auto)]
 
+mod bodies;
 mod index;
+mod name;
+mod set;
 
+pub use bodies::{Bodies, held_paths};
 pub use index::{Index, Listed, Lists};
+pub use set::TextSet;
