@@ -2,3 +2,4 @@ mod Rows
 pub mod Sets
 pub mod Bases
 pub mod Orders
+pub mod Fronts

@@ -5,10 +5,12 @@
 #![tactic(auto)]
 
 mod bodies;
+mod find;
 mod index;
 mod name;
 mod set;
 
 pub use bodies::{Bodies, held_paths};
+pub use find::find_indexes;
 pub use index::{Index, Listed, Lists};
 pub use set::TextSet;
