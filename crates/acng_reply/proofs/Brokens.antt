@@ -1,14 +1,14 @@
 -- A front of a reply through some of its body is a front of the whole reply.
-use Rattle.std.proofs.Common.{◌≡◌, ℕ, ◌+◌, ◌-◌, ◌≤◌, min, Bool, true, false, List, [], ◌∷◌, ◌++◌, length, take, drop, refl, ap, sym, ◌∙◌, subst}
+use Rattle.std.proofs.Common.{◌≡◌, ℕ, ◌+◌, ◌-◌, min, Bool, true, false, List, [], ◌∷◌, ◌++◌, length, take, drop}
+use Rattle.std.proofs.Common.{refl, ap, sym, ◌∙◌, subst}
 use Rattle.std.proofs.Common.{append_assoc, append-nil, arith}
 use Rattle.std.specs.List.{concat}
-use Rattle.std.specs.Prelude.{cond}
 use Rattle.std.proofs.lemmas.List.{length-append, take_min, take-append-le, take-append-drop}
 use Rattle.acng_request.specs.ReplyHeads.{head_text}
 use Rattle.acng_grow.specs.declared.sending.Sending.{Sending}
 use Rattle.acng_grow.specs.declared.sending.Sending.TheVariants.{Length, Chunked, ToEnd}
-use Rattle.acng_grow.specs.Sends.{piece_text, framed, last_text, AreSome, counted_in, size_line}
-use Rattle.acng_reply.specs.Replies.{Reply, Cutting, IsBroken, Sent, WroteFront, carried, end_of, text_by, through}
+use Rattle.acng_grow.specs.Sends.{piece_text, framed, AreSome, counted_in, size_line}
+use Rattle.acng_reply.specs.Replies.{Reply, IsBroken, Sent, WroteFront, carried, end_of, through}
 use Rattle.acng_reply.specs.Parted.{BrokeIn}
 use Rattle.acng_reply.proofs.Parting.{through_all}
 use Rattle.acng_reply.proofs.Texts.{one, one_some, one_cut}
@@ -82,7 +82,10 @@ module _ (r : Reply) (full : r.whole ≡ true) (n : ℕ) (sent : ℕ) (text : Li
       let more = framed s qs ++ end_of r in
       let k : ℕ = min b.k (length (H ++ F)) in
       let cut : concat (ps ++ qs) ≡ r.body =
-      concat_join ps qs ∙ ap (λ t. t ++ concat qs) b.cutting.cut ∙ ap (λ t. take n r.body ++ t) (one_cut (drop n r.body)) ∙ take-append-drop n r.body in
+      concat_join ps qs
+      ∙ ap (λ t. t ++ concat qs) b.cutting.cut
+      ∙ ap (λ t. take n r.body ++ t) (one_cut (drop n r.body))
+      ∙ take-append-drop n r.body in
       let all : H ++ (framed s (ps ++ qs) ++ end_of r) ≡ (H ++ F) ++ more =
       ap (λ t. H ++ (t ++ end_of r)) (framed_join s ps qs)
       ∙ ap (λ t. H ++ t) (append_assoc F (framed s qs) (end_of r))

@@ -75,6 +75,16 @@ pub fn file_head(manner: Manner, facts: &Facts, pick: Pick) -> ReplyHead
     }
 }
 
+/// Whether the connection closes after the whole reply that sends this of a file.
+pub fn closes(manner: Manner, facts: &Facts, pick: Pick) -> bool
+    ensures { result ≡ (file_head manner facts.now pick).close }
+{
+    match pick {
+        Pick::All => manner.close || ends_body(file_framing(manner.minor, facts.total)),
+        Pick::Unmodified | Pick::NoPart { .. } | Pick::Section { .. } => manner.close,
+    }
+}
+
 fn of_file(
     manner: Manner,
     facts: &Facts,

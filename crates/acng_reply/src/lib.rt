@@ -14,7 +14,7 @@ mod part;
 mod pick;
 mod send;
 
-pub use head::{file_head, line_head, page_head, sending_of};
+pub use head::{closes, file_head, line_head, page_head, sending_of};
 pub use line::Line;
 pub use manner::Manner;
 pub use part::send_part;
