@@ -78,14 +78,14 @@ all_exact rows k a all = record {
 
 -- ---- nothing came yet
 
-between_self : (come : Core → List ℕ → Type 0) (rows new : Rows) (s : Stored) → IsBetween come rows new s s
+pub between_self : (come : Core → List ℕ → Type 0) (rows new : Rows) (s : Stored) → IsBetween come rows new s s
 between_self come rows new s = record {
   goods = record { each = λ id h t g. inl (record { was = h; good = g; alike = refl }) };
   stands = λ a. inl (exact_stands rows s a);
 }
 
 -- a removal makes no head good
-goods_less : (come : Core → List ℕ → Type 0) (r : Removal) (s t : Stored) → GoodsCome come s t
+pub goods_less : (come : Core → List ℕ → Type 0) (r : Removal) (s t : Stored) → GoodsCome come s t
     → GoodsCome come s (changed_by (effect_of r) t)
 goods_less come r s t a = record { each = λ id h x g. a.each id h x (good_less r t id h x g) }
 

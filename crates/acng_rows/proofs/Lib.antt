@@ -8,3 +8,5 @@ pub mod Lists
 pub mod Names
 pub mod Changes
 pub mod Faithful
+pub mod Walks
+pub mod Seals

@@ -1,5 +1,10 @@
 -- The rows of a cache as contracts see them, and what calls make of them.
-use Rattle.std.specs.Prelude.{ℕ, ◌^◌, ◌<◌, Bool, cond, ◌||◌, is_some, List, Option, None, Some, IfSome}
+use Rattle.std.specs.Prelude.{◌≡◌, ⊤, ℕ, ◌^◌, ◌<◌, Bool, cond, ◌||◌, is_some, List, Option, None, Some, IfSome}
+use Rattle.std.specs.Ordering.{nat_cmp}
+use Rattle.std.specs.Cmp.Lexicographic.{slice_cmp}
+use Rattle.std.specs.declared.cmp.Ordering.TheVariants.{Less}
+use Rattle.std.specs.declared.ops.Bound.{Bound}
+use Rattle.std.specs.declared.ops.Bound.TheVariants.{Excluded, Unbounded}
 use Rattle.std.specs.FinMap as map
 use Rattle.acng_head.specs.declared.head.Head.{Head}
 use Rattle.acng_head.specs.declared.head.Label.{Label}
@@ -89,6 +94,16 @@ whole_at rows path = whole_in (map.get rows path)
 
 abbrev pub out_at : Rows → List ℕ → Option Load
 out_at rows path = out_in (map.get rows path)
+
+-- the path comes after the other, where there is one
+abbrev pub IsAfter : Option (List ℕ) → List ℕ → Type 0
+IsAfter None path = ⊤
+IsAfter (Some other) path = slice_cmp nat_cmp other path ≡ Less
+
+-- where the paths after another begin
+abbrev pub start_of : Option (List ℕ) → Bound (List ℕ)
+start_of None = Unbounded
+start_of (Some path) = Excluded path
 
 -- ---- what calls make of the row of a path
 

@@ -17,6 +17,7 @@ mod removal;
 mod row;
 mod row_map;
 mod stamp;
+mod walk;
 mod whole;
 
 pub use change::{hold, let_go, restamp};
