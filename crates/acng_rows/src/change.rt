@@ -8,7 +8,7 @@ ghost use Rattle.acng_head.specs.Records.{IsHead};
 ghost use Rattle.acng_keeper.specs.Kept.{stored};
 ghost use Rattle.acng_keeper.specs.Images.{changed, IsAlong, LeavesOnly};
 ghost use Rattle.acng_keeper.specs.Slips.{SlipRose, Later};
-ghost use Rattle.acng_rows.specs.Calls.{RowRose, LeavesRow};
+ghost use Rattle.acng_rows.specs.Calls.{RowRose, LeavesRow, stamp_plan, hold_plan, go_plan};
 ghost use Rattle.acng_rows.specs.Goods.{AreHeld, AreSealed, HasBody, IsBetween, IsExact, IsUnnamed, none_comes, whole_comes};
 ghost use Rattle.acng_rows.specs.Removals.{KeepsLoose, effects_of, both_of};
 ghost use Rattle.acng_rows.specs.Rows.{head_of, whole_at, id_in_whole, with_whole, restamped, without_whole};
@@ -36,6 +36,8 @@ pub fn restamp<K: Keeper, T: Drop>(
     requires held { AreHeld K.tells (K.next keeper.old) rows.old (K.kept keeper.old) }
     ensures rows { OnOk result (rows.new ≡ restamped stamp rows.old path.now) }
     ensures there { OnOk result (is_some (whole_at rows.old path.now) ≡ true) }
+    ensures stored { OnOk result (K.tells ≡ true → stored (K.kept keeper.new) ≡
+        changed (stamp_plan stamp path.now (whole_at rows.old path.now)) (stored (K.kept keeper.old))) }
 
     // A refusal, and what it leaves.
     ensures cause { IfErr result (λ e. RowRose e (whole_at rows.old path.now) (K.faults keeper.old) (K.faults keeper.new)) }
@@ -103,6 +105,8 @@ pub fn hold<K: Keeper, T: Drop>(
     requires own { IsUnnamed rows.old whole.id }
     requires body { K.tells ≡ true → HasBody (K.kept keeper.old) whole }
     ensures rows { OnOk result (rows.new ≡ with_whole rows.old path.now (Some whole)) }
+    ensures stored { OnOk result (K.tells ≡ true → stored (K.kept keeper.new) ≡
+        changed (hold_plan path.now whole (whole_at rows.old path.now)) (stored (K.kept keeper.old))) }
 
     // A refusal, and what it leaves.
     ensures cause { IfErr result (λ e. SlipRose e (K.faults keeper.old) (K.faults keeper.new)) }
@@ -137,6 +141,8 @@ pub fn let_go<K: Keeper, T: Drop>(
     requires held { AreHeld K.tells (K.next keeper.old) rows.old (K.kept keeper.old) }
     ensures rows { OnOk result (rows.new ≡ without_whole rows.old path.now) }
     ensures there { OnOk result (is_some (whole_at rows.old path.now) ≡ true) }
+    ensures stored { OnOk result (K.tells ≡ true → stored (K.kept keeper.new) ≡
+        changed (go_plan (whole_at rows.old path.now)) (stored (K.kept keeper.old))) }
 
     // A refusal, and what it leaves.
     ensures cause { IfErr result (λ e. RowRose e (whole_at rows.old path.now) (K.faults keeper.old) (K.faults keeper.new)) }

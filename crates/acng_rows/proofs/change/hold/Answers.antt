@@ -1,4 +1,4 @@
-use Rattle.std.proofs.Common.{◌≡◌, sym, subst, refl, true, Some, Option, ℕ}
+use Rattle.std.proofs.Common.{◌≡◌, ◌∙◌, ap, sym, subst, refl, true, Some, Option, ℕ}
 use Rattle.std.proofs.lemmas.Result.{on_ok_weaker}
 use Rattle.acng_keeper.specs.Kept.{stored}
 use Rattle.acng_keeper.specs.Images.{changed, IsAlong, LeavesOnly}
@@ -87,3 +87,12 @@ returns-clause-sealed g c = λ tells sealed.
     (g.met.K.Keeper.sound c.args.keeper.now tells).apart (c.put_whole.ensures.either tells) sealed in
     sealed_left (both_of c.swap_whole-old.result) (g.K.Keeper.kept c.put_whole.new.keeper) (g.K.Keeper.kept c.remove_old.new.keeper)
     (c.remove_old.ensures.stops tells) (c.remove_old.ensures.others tells) mid
+
+pub returns-clause-stored : goal.returns-clause-stored
+returns-clause-stored g c = on_ok_weaker c.remove_old.result
+    (λ made tells.
+    let mid = g.K.Keeper.kept c.put_whole.new.keeper in
+    let P : Option ℕ → Type 0 = λ o. stored (g.K.Keeper.kept c.remove_old.new.keeper) ≡ changed (effects_of (both_of o)) (stored mid) in
+    subst P c.swap_whole-old.ensures.old (made tells)
+    ∙ ap (λ t. changed (effects_of (both_of (id_in_whole (whole_at c.args.rows.now c.args.path.now)))) t) (ap stored (c.in_ok-put_whole.ensures.comes tells)))
+    c.remove_old.ensures.stored

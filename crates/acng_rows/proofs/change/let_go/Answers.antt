@@ -110,3 +110,9 @@ pub returns-in-Err-clause-sealed : goal.returns-in-Err-clause-sealed
 returns-in-Err-clause-sealed g c = λ tells sealed.
     sealed_left (both_of c.whole_id-old.result) (g.K.Keeper.kept c.args.keeper.now) (g.K.Keeper.kept c.remove_old.new.keeper)
     (c.remove_old.ensures.stops tells) (c.remove_old.ensures.others tells) sealed
+
+pub returns-in-Ok-clause-stored : goal.returns-in-Ok-clause-stored
+returns-in-Ok-clause-stored g c = λ tells.
+    let id : c.whole_id-old.result ≡ id_in_whole (whole_at c.args.rows.now c.args.path.now) =
+    c.whole_id-old.ensures ∙ ap (λ o. id_in_whole (whole_in o)) c.get.ensures in
+    c.in-Ok.ensures.stored tells ∙ ap (λ o. changed (effects_of (both_of o)) (stored (g.K.Keeper.kept c.args.keeper.now))) id

@@ -1,5 +1,7 @@
 use Rattle.std.proofs.Common.{◌∙◌, ap, sym, subst}
 use Rattle.acng_keeper.specs.Kept.{stored}
+use Rattle.acng_keeper.specs.Images.{changed}
+use Rattle.acng_rows.specs.Calls.{stamp_plan}
 use Rattle.acng_rows.specs.Rows.{Rows, Row, whole_in, restamped}
 use Rattle.acng_rows.specs.Goods.{AreHeld, IsExact, none_comes}
 use Rattle.acng_rows.proofs.Changes.{rest_stops, restamp_row, restamp_held, restamp_stops, restamp_exact, restamp_sealed}
@@ -80,3 +82,9 @@ returns-clause-sealed g c = λ tells.
     restamp_sealed g.K.Keeper.tells (g.K.Keeper.next c.args.keeper.now) c.args.rows.now (g.K.Keeper.kept c.args.keeper.now) c.args.path.now
     c.in-Some-whole.whole at c.args.stamp c.put_stamped.ensures.fits c.requires.held (g.K.Keeper.kept c.put_stamped.new.keeper) tells
     (c.put_stamped.ensures.either tells)
+
+pub returns-clause-stored : goal.returns-clause-stored
+returns-clause-stored g c = λ tells.
+    let at = ap whole_in (sym c.in-Some.ensures) ∙ ap (λ (r : Row). r.whole) (sym c.row.view_is) ∙ c.in-Some-whole.is in
+    ap stored (c.in_default-put_stamped.ensures.comes tells)
+    ∙ ap (λ o. changed (stamp_plan c.args.stamp c.args.path.now o) (stored (g.K.Keeper.kept c.args.keeper.now))) (sym at)
