@@ -1,5 +1,10 @@
+pub mod Decisions
 pub mod Events
 pub mod Fits
 pub mod Judges
 pub mod Law
+pub mod Loads
 pub mod Orders
+pub mod Rooms
+pub mod Stocks
+pub mod Supplies

@@ -2,11 +2,12 @@
 //!
 //! What comes of the answer comes in order: its head, the pieces of its body, and its end. The connection is read into one
 //! buffer, and not past the answer's last byte, since the other side may leave the connection open behind it.
-ghost use Rattle.std.specs.Prelude.{◌≡◌, ◌<◌, ◌≤◌, true, List, ℕ, None, Some, slice_range, IfSome, IfNone, IfOk, MatchOption, length};
+ghost use Rattle.std.specs.Prelude.{◌≡◌, ◌<◌, ◌≤◌, true, Bool, List, ℕ, None, Some, slice_range, IfSome, IfNone, IfOk, MatchOption, length};
 ghost use Rattle.std.specs.Prelude.{option_copied};
-ghost use Rattle.acng_base.specs.Answers.{nothing, answer_limit};
+ghost use Rattle.acng_base.specs.Answers.{nothing, reading, answer_limit};
 ghost use Rattle.acng_answer.specs.Blocks.{IsBounded};
-ghost use Rattle.acng_answer.specs.Reader.{due as due_in};
+ghost use Rattle.acng_answer.specs.Reader.{due as due_in, rest};
+ghost use Rattle.acng_answer.specs.Stages.{without_interim};
 ghost use Rattle.acng_fetch.specs.Events.{IsReady, IsEndOf, GoesOn, left_of, outcome_of, Brings, IsPart, ComesInOrder, Counts, EndsDue};
 ghost use Rattle.acng_fetch.specs.Events.{IfSlip, IfSlipEnd};
 
@@ -53,6 +54,13 @@ pub struct Exchange<C> {
     pub(crate) reader: AnswerReader,
     pub(crate) buf: Vec<u8>,
     pub(crate) pending: Pending,
+}
+
+/// What an answer is read with. It is made before an attempt is spent, since it takes memory.
+#[derive(Drop)]
+pub(crate) struct Intake {
+    pub(crate) reader: AnswerReader,
+    pub(crate) buf: Vec<u8>,
 }
 
 impl<C: Conn> Exchange<C> {
@@ -170,11 +178,17 @@ impl<C: Conn> Exchange<C> {
     }
 }
 
-/// A buffer to read connections into.
-pub fn new_buffer(alloc: Global) -> Result<Vec<u8>, NoMemory>
-    ensures { IfOk result (λ buf. 0 < length buf.items) }
+/// A reader that has read nothing, and a buffer.
+pub(crate) fn new_intake(alloc: Global) -> Result<Intake, NoMemory>
+    ensures reads { IfOk result (λ d. (ended : Bool) (text : List ℕ)
+        → rest d.reader ended text ≡ without_interim (reading text ended answer_limit)) }
+    ensures limit { IfOk result (λ d. (d.reader.limit ≡ answer_limit) × (d.reader.at ≡ 0)) }
+    ensures fresh { IfOk result (λ d. (d.reader.head ≡ None) × (due_in d.reader ≡ None)) }
+    ensures room { IfOk result (λ d. 0 < length d.buf.items) }
 {
-    Ok(vec![in alloc; 0u8; ROOM]?)
+    let reader = AnswerReader::new(alloc)?;
+    let buf = vec![in alloc; 0u8; ROOM]?;
+    Ok(Intake { reader, buf })
 }
 
 // The end that a step says; None where the answer goes on.

@@ -1,11 +1,41 @@
 //! Downloads: the attempts to get a file from its origins, and what they make of a body that grows.
 //!
-//! What a download does is a function of what its attempts read, `download` of the definitions on growing bodies. On a site
-//! that is honest each of its effects is allowed where it comes, so that the body never has a byte that isn't its file's.
+//! What a download does is a function of what its attempts read: `download` of the definitions on growing bodies. The code
+//! dials, reads and retries, and a plan that it keeps of the body shows that it has those effects and no others, and leaves
+//! the attempts that the function leaves. On an honest site each effect is allowed where it comes, so the body never has a
+//! byte that isn't its file's.
+//!
+//! ```text
+//!               next origin, redirect
+//!                  ------------
+//!                  |          |        200, or 206 for a partial body's rest                 all came
+//!     first ask    v          |   --------------------------------------------> Running ----------------> Whole
+//!     ---------> Asking ------+--<                                               |   ^
+//!                  |              --- 304 to an ask with a moment ---> Same      |   | 206 for the rest
+//!                  | after the last origin or attempt                            v   |
+//!                  ----------> Refused             a slip or an early end with tag and total: the rest is asked
+//!                                                                                |
+//!                                                                                ----------> Cut
+//!                                             any other head, a bad answer, or no attempt left
+//! ```
 #![tactic(auto)]
 
+mod attempt;
+mod decision;
 mod exchange;
+mod grows;
 mod law;
+mod load;
+mod loader;
+mod order;
+mod owned;
+mod standing;
 
-pub use exchange::{End, Event, Exchange, Pending, new_buffer};
+pub use exchange::{End, Event, Exchange, Pending};
+pub use grows::Grows;
 pub use law::{downloads_allowed, downloads_keep};
+pub use load::download;
+pub use loader::Loader;
+pub use order::{OldOrder, Order, PartOrder};
+pub use owned::{Owned, Supplies};
+pub use standing::{Standing, Turned};
