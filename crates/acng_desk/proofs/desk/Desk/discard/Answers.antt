@@ -1,0 +1,26 @@
+use Rattle.std.proofs.Common.{◌≡◌, ℕ, sym, subst, true}
+use Rattle.acng_desk.specs.House.{House}
+use Rattle.acng_desk.specs.Keeps.{AreNobodys, IsSound}
+use Rattle.acng_desk.proofs.Discards.{discard_sound}
+use Rattle.acng_desk.proofs.desk.Desk.discard.Goals as goal
+
+pub invariant_of-self : goal.invariant_of-self
+invariant_of-self g c =
+    let inside : House = record {
+      plain = record {
+        rows = c.self.inside.rows;
+        parts = c.self.inside.parts;
+        next_try = c.self.inside.right.next;
+        next_id = g.K.Keeper.next c.self.inside.keeper;
+        limit = c.self.inside.limit;
+        rules = c.self.inside.rules;
+      };
+      kept = g.K.Keeper.kept c.self.inside.keeper;
+      faults = g.K.Keeper.faults c.self.inside.keeper;
+    } in
+    let k = g.K.Keeper.kept c.remove_all.new.keeper in
+    let f = g.K.Keeper.faults c.remove_all.new.keeper in
+    let n = subst (λ (h : House). AreNobodys h.plain.rows h.plain.parts c.args.list.now) (sym c.self.view_is) c.requires.nobodys in
+    let P : ℕ → Type 0 = λ i. IsSound g.S.Site g.K.Keeper.tells (record { plain = record inside.plain { next_id = i }; kept = k; faults = f }) in
+    subst P (sym c.remove_all.ensures.same_next) (discard_sound g.S.Site g.K.Keeper.tells inside.plain c.args.list.now inside.kept k inside.faults f n
+    c.remove_all.ensures.stops c.remove_all.ensures.others c.self.invariant)

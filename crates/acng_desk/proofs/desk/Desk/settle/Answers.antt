@@ -1,0 +1,144 @@
+use Rattle.std.proofs.Common.{◌≡◌, ◌≢◌, ◌<◌, ◌≤◌, ◌+◌, ℕ, List, sym, subst, ap, ◌∙◌, inl, refl, is_some, true, false, Some, None, Option, arith}
+use Rattle.std.specs.Option.{option_map, IfSome}
+use mathlib.Core.Bool.{true≢false}
+use Rattle.std.specs.FinMap as map
+use Rattle.acng_grow.specs.declared.facts.Stage.TheVariants as stage
+use Rattle.acng_grow.specs.Grown.{number_of}
+use Rattle.acng_rows.specs.declared.fault.RowFault.{RowFault}
+use Rattle.acng_rows.specs.Calls.{RowRose}
+use Rattle.acng_rows.specs.Rows.{whole_at, out_at, whole_in}
+use Rattle.acng_desk.specs.declared.ending.Ending.TheVariants as ending
+use Rattle.acng_desk.specs.declared.ticket.Info.{Info}
+use Rattle.acng_desk.specs.House.{Plain, Parked, parked_of, spot_at}
+use Rattle.acng_desk.specs.Settles.{is_out, IsAmong}
+use Rattle.acng_desk.proofs.Changes.{later}
+use Rattle.acng_desk.proofs.Endings.{end_out, keep_stage, same_stage, park_stage, back_stage, park_room, room_is, same_held, ticket_part, ticket_below, part_number, file_number}
+use Rattle.acng_desk.proofs.Owns.{own_apart, out_below}
+use Rattle.acng_desk.proofs.desk.Desk.settle.Goals as goal
+
+whole_same : stage.Whole ≡ stage.Same → ⊥
+whole_same q = cc
+
+cut_same : stage.Cut ≡ stage.Same → ⊥
+cut_same q = cc
+
+pub keep_load-requires-clause-stage : goal.keep_load-requires-clause-stage
+keep_load-requires-clause-stage g c =
+    let plain = c.args.self.now.plain in
+    let t = c.args.ticket in
+    let body = c.args.body.now in
+    let s = spot_at plain body.path in
+    let o = end_out s t body ending.Keep (sym c.ending-ending.ensures ∙ c.in-Keep.is) (λ q. cc) in
+    keep_stage s t body body.seen.stage o.1
+
+pub keep_load-requires-clause-label : goal.keep_load-requires-clause-label
+keep_load-requires-clause-label g c =
+    let plain = c.args.self.now.plain in
+    let t = c.args.ticket in
+    let body = c.args.body.now in
+    let s = spot_at plain body.path in
+    let o = end_out s t body ending.Keep (sym c.ending-ending.ensures ∙ c.in-Keep.is) (λ q. cc) in
+    let is = keep_stage s t body body.seen.stage o.1 in
+    let P : Info → Type 0 = λ i. IfSome body.seen.label (IsAmong i.first) in
+    subst P (sym c.spend-info.ensures.info) (c.requires.ends.label (λ q. whole_same (sym is ∙ q)))
+
+pub same_load-requires-clause-held : goal.same_load-requires-clause-held
+same_load-requires-clause-held g c =
+    let plain = c.args.self.now.plain in
+    let t = c.args.ticket in
+    let body = c.args.body.now in
+    let s = spot_at plain body.path in
+    let o = end_out s t body ending.Same (sym c.ending-ending.ensures ∙ c.in-Same.is) (λ q. cc) in
+    let is = same_stage s t body body.seen.stage o.1 in
+    let held = same_held (whole_in s.row) t.info (number_of body) is.1 (c.requires.ends.file_same is.0) (file_number body.file (c.keeps-3.ensures.file.same is.0)) in
+    subst (λ q. is_some (whole_at plain.rows q) ≡ true) (c.requires.ends.path ∙ sym (ap (λ (i : Info). i.path) c.spend-info.ensures.info)) held
+
+pub unreachable-requires : goal.unreachable-requires
+unreachable-requires g c =
+    let plain = c.args.self.now.plain in
+    let t = c.args.ticket in
+    let body = c.args.body.now in
+    let s = spot_at plain body.path in
+    let o = end_out s t body ending.Same (sym c.ending-ending.ensures ∙ c.in-Same.is) (λ q. cc) in
+    let is = same_stage s t body body.seen.stage o.1 in
+    let held = same_held (whole_in s.row) t.info (number_of body) is.1 (c.requires.ends.file_same is.0) (file_number body.file (c.keeps-3.ensures.file.same is.0)) in
+    let path = c.spend-info.result.info.path in
+    let there = subst (λ q. is_some (whole_at plain.rows q) ≡ true) (c.requires.ends.path ∙ sym (ap (λ (i : Info). i.path) c.spend-info.ensures.info)) held in
+    let none : whole_at plain.rows path ≡ None = subst (λ (f : RowFault _). RowRose f (whole_at plain.rows path) c.args.self.now.faults c.same_load.new.self.faults)
+    c.in-Err-NotHeld.field-0-is c.in-Err-NotHeld.ensures.cause in
+    true≢false (sym there ∙ ap is_some none)
+
+pub park_load-requires-clause-cut : goal.park_load-requires-clause-cut
+park_load-requires-clause-cut g c =
+    let plain = c.args.self.now.plain in
+    let t = c.args.ticket in
+    let body = c.args.body.now in
+    let s = spot_at plain body.path in
+    let o = end_out s t body ending.Park (sym c.ending-ending.ensures ∙ c.in-Park.is) (λ q. cc) in
+    (park_stage s t body body.seen.stage o.1).0
+
+pub park_load-requires-clause-label : goal.park_load-requires-clause-label
+park_load-requires-clause-label g c =
+    let plain = c.args.self.now.plain in
+    let t = c.args.ticket in
+    let body = c.args.body.now in
+    let s = spot_at plain body.path in
+    let o = end_out s t body ending.Park (sym c.ending-ending.ensures ∙ c.in-Park.is) (λ q. cc) in
+    let is = (park_stage s t body body.seen.stage o.1).0 in
+    let P : Info → Type 0 = λ i. IfSome body.seen.label (IsAmong i.first) in
+    subst P (sym c.spend-info.ensures.info) (c.requires.ends.label (λ q. cut_same (sym is ∙ q)))
+
+pub park_load-requires-clause-room : goal.park_load-requires-clause-room
+park_load-requires-clause-room g c =
+    let plain = c.args.self.now.plain in
+    let t = c.args.ticket in
+    let body = c.args.body.now in
+    let s = spot_at plain body.path in
+    let o = end_out s t body ending.Park (sym c.ending-ending.ensures ∙ c.in-Park.is) (λ q. cc) in
+    room_is plain body.path (park_room s body (park_stage s t body body.seen.stage o.1).1)
+
+pub unreachable-requires-in_default : goal.unreachable-requires-in_default
+unreachable-requires-in_default g c =
+    let plain = c.args.self.now.plain in
+    let t = c.args.ticket in
+    let body = c.args.body.now in
+    let s = spot_at plain body.path in
+    let o = end_out s t body ending.Back (sym c.ending-ending.ensures ∙ c.in-Back.is) (λ q. cc) in
+    let some : is_some t.part_body ≡ true = (back_stage s t body body.seen.stage o.1).1 in
+    true≢false (sym some ∙ sym (ap is_some c.spend-info.ensures.part) ∙ ap (λ q. is_some (option_map (parked_of g.K.Body.BodyFile.handle) q)) c.in_default.is)
+
+pub rest_load-requires-clause-below : goal.rest_load-requires-clause-below
+rest_load-requires-clause-below g c =
+    let plain = c.args.self.now.plain in
+    let t = c.args.ticket in
+    let body = c.args.body.now in
+    let s = spot_at plain body.path in
+    let o = end_out s t body ending.Back (sym c.ending-ending.ensures ∙ c.in-Back.is) (λ q. cc) in
+    let b : Parked = parked_of g.K.Body.BodyFile.handle c.in-Some.part in
+    let at : t.part_body ≡ Some b = sym c.spend-info.ensures.part ∙ ap (option_map (parked_of g.K.Body.BodyFile.handle)) c.in-Some.is in
+    let more : t.info.first + 16 ≤ plain.next_try = out_below g.S.Site g.K.Keeper.tells plain body.path t.info c.keeps.ensures.plain o.0 in
+    later t.info.first plain.next_try b.label (omega (arith, more)) (ticket_below g.S.Site g.K.Body.BodyFile.tells t b c.keeps-2.ensures at)
+
+pub rest_load-requires-clause-room : goal.rest_load-requires-clause-room
+rest_load-requires-clause-room g c =
+    let plain = c.args.self.now.plain in
+    let t = c.args.ticket in
+    let body = c.args.body.now in
+    let s = spot_at plain body.path in
+    let o = end_out s t body ending.Back (sym c.ending-ending.ensures ∙ c.in-Back.is) (λ q. cc) in
+    room_is plain body.path (back_stage s t body body.seen.stage o.1).2
+
+pub rest_load-requires-clause-other : goal.rest_load-requires-clause-other
+rest_load-requires-clause-other g c =
+    let plain = c.args.self.now.plain in
+    let t = c.args.ticket in
+    let body = c.args.body.now in
+    let s = spot_at plain body.path in
+    let o = end_out s t body ending.Back (sym c.ending-ending.ensures ∙ c.in-Back.is) (λ q. cc) in
+    let b : Parked = parked_of g.K.Body.BodyFile.handle c.in-Some.part in
+    let at : t.part_body ≡ Some b = sym c.spend-info.ensures.part ∙ ap (option_map (parked_of g.K.Body.BodyFile.handle)) c.in-Some.is in
+    let number = part_number t.info b (ticket_part g.S.Site g.K.Body.BodyFile.tells t b c.keeps-2.ensures at) in (
+      inl refl,
+      λ q. own_apart g.S.Site g.K.Keeper.tells plain body.path t.info b.handle.number c.keeps.ensures.plain o.0 number
+          (sym q ∙ ap (λ (i : Info). i.fresh) c.spend-info.ensures.info),
+    )

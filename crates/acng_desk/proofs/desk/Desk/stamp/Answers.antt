@@ -1,0 +1,38 @@
+use Rattle.std.proofs.Common.{◌≡◌, ◌⊎◌, ℕ, sym, subst, ap, ◌∙◌, is_some, true, Some, None, Option}
+use Rattle.acng_keeper.specs.Kept.{stored}
+use Rattle.acng_rows.specs.Rows.{Rows, whole_at, restamped}
+use Rattle.acng_rows.specs.Goods.{none_comes}
+use Rattle.acng_rows.proofs.Faithful.{faithful_between}
+use Rattle.acng_desk.specs.House.{House}
+use Rattle.acng_desk.proofs.Kepts.{FileIs, held_of, sealed_of, to_so, from_so}
+use Rattle.acng_desk.proofs.Results.{stamped_or}
+use Rattle.acng_desk.proofs.Stamps.{stamp_sound}
+use Rattle.acng_desk.proofs.desk.Desk.stamp.Goals as goal
+
+pub restamp-requires : goal.restamp-requires
+restamp-requires g c = record { held = held_of g.S.Site g.K.Keeper.tells _ c.self.invariant }
+
+pub invariant_of-self : goal.invariant_of-self
+invariant_of-self g c =
+    let path = c.args.path.now in
+    let inside : House = record {
+      plain = record {
+        rows = c.self.inside.rows;
+        parts = c.self.inside.parts;
+        next_try = c.self.inside.right.next;
+        next_id = g.K.Keeper.next c.self.inside.keeper;
+        limit = c.self.inside.limit;
+        rules = c.self.inside.rules;
+      };
+      kept = g.K.Keeper.kept c.self.inside.keeper;
+      faults = g.K.Keeper.faults c.self.inside.keeper;
+    } in
+    let k = g.K.Keeper.kept c.restamp.new.keeper in
+    let e = c.restamp.ensures in
+    let m : Rows = c.restamp.new.rows in
+    stamp_sound g.S.Site g.K.Keeper.tells inside path c.args.stamp k (g.K.Keeper.faults c.restamp.new.keeper) m (g.K.Keeper.next c.restamp.new.keeper)
+    c.self.invariant e.held e.same_next e.loose
+    (λ told. let f = (c.self.invariant.kept told).faithful in
+    from_so g.S.Site k (faithful_between (FileIs g.S.Site) none_comes inside.plain.rows (restamped c.args.stamp inside.plain.rows path) inside.kept k (e.stops told)
+    (λ core text no. absurd no) (e.sealed told (sealed_of g.S.Site inside.kept f)) (to_so g.S.Site inside.kept f)))
+    (stamped_or c.restamp.result e.rows e.there e.same)

@@ -1,0 +1,10 @@
+pub mod Begins
+pub mod Calls
+pub mod Codes
+pub mod Commands
+pub mod House
+pub mod Keeps
+pub mod Looks
+pub mod Settles
+pub mod Starts
+pub mod Tickets
