@@ -1,5 +1,6 @@
 -- What the bytes of a connection ask next: a function of them, from the end of the request before on.
-use Rattle.std.specs.Prelude.{ℕ, Bool, ◌||◌, ◌==◌, List, take, drop, length, nat_le, Option, Some, None, option_and_then, cond, codes, bytes_eq, Result, Ok, Err}
+use Rattle.std.specs.Prelude.{ℕ, Bool, ◌||◌, ◌==◌, List, take, drop, length, nat_le, Option, Some, None, option_and_then, cond}
+use Rattle.std.specs.Prelude.{codes, bytes_eq, Result, Ok, Err}
 use Rattle.acng_base.specs.Limits.{most_head, most_fields}
 use Rattle.acng_base.specs.Lines.{lines, head_block_len}
 use Rattle.acng_request.specs.RequestHeads.{Head, head_of, inner_lines}

@@ -1,5 +1,6 @@
 -- The head of a reply (RFC 9112, sections 2.1 and 4), as one text of its lines.
-use Rattle.std.specs.Prelude.{◌≡◌, ℕ, ◌<◌, Bool, false, not, ◌||◌, ◌==◌, List, [], ◌∷◌, ◌++◌, Option, Some, None, option_map, unwrap_or, cond, codes, decimal}
+use Rattle.std.specs.Prelude.{◌≡◌, ℕ, ◌<◌, Bool, false, not, ◌||◌, ◌==◌, List, [], ◌∷◌, ◌++◌, Option, Some, None, option_map}
+use Rattle.std.specs.Prelude.{unwrap_or, cond, codes, decimal}
 use Rattle.std.specs.List.{list_any}
 use Rattle.http.specs.StatusCode.{reason_phrase}
 use Rattle.httpdate.specs.Date.{unix_secs, date_text}

@@ -1,6 +1,7 @@
 -- What the fields of a request say. A field is read only where it stands once; one that doesn't read is as if it weren't
 -- there.
-use Rattle.std.specs.Prelude.{ℕ, ◌+◌, Bool, true, false, ◌&&◌, ◌||◌, not, ◌==◌, List, [], ◌∷◌, take, drop, nat_le, Option, Some, None, option_map, option_and_then, cond, codes, bytes_eq, position}
+use Rattle.std.specs.Prelude.{ℕ, ◌+◌, Bool, true, false, ◌&&◌, ◌||◌, not, ◌==◌, List, [], ◌∷◌, take, drop, nat_le, Option, Some}
+use Rattle.std.specs.Prelude.{None, option_map, option_and_then, cond, codes, bytes_eq, position}
 use Rattle.std.specs.List.{list_any, slice_split}
 use Rattle.std.specs.Str.{str_to_ascii_lowercase}
 use Rattle.httpdate.specs.Date.{parse_secs}

@@ -1,5 +1,6 @@
 -- The head of a request (RFC 9112, sections 2 to 5), as a function of its block, by the grammar of `httparse`.
-use Rattle.std.specs.Prelude.{ℕ, suc, ◌-◌, Bool, ◌&&◌, List, [], ◌∷◌, length, map, take, slice_index, nat_le, nat_lt, Option, Some, None, option_map, cond, bytes_eq}
+use Rattle.std.specs.Prelude.{ℕ, suc, ◌-◌, Bool, ◌&&◌, List, [], ◌∷◌, length, map, take, slice_index, nat_le, nat_lt, Option}
+use Rattle.std.specs.Prelude.{Some, None, option_map, cond, bytes_eq}
 use Rattle.std.specs.List.{list_all}
 use Rattle.std.specs.Str.{is_utf8}
 use Rattle.httparse.specs.Grammar.{LineEnd, lf, RequestHead, print_request, is_token, is_uri_byte}

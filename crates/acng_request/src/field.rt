@@ -7,7 +7,8 @@ ghost use Rattle.std.specs.List.{list_any};
 ghost use Rattle.std.specs.Str.{str_to_ascii_lowercase};
 ghost use Rattle.httparse.specs.Spans.{IsHeaderWithin, header_bytes};
 ghost use Rattle.acng_base.specs.Heads.{values};
-ghost use Rattle.acng_request.specs.RequestFields.{value_of, part_of, places_of, part_from, moment_of, since, closes, says_close, is_close, is_there, is_length, announces, has_body};
+ghost use Rattle.acng_request.specs.RequestFields.{value_of, part_of, places_of, part_from, moment_of, since, closes, says_close};
+ghost use Rattle.acng_request.specs.RequestFields.{is_close, is_there, is_length, announces, has_body};
 ghost use Rattle.acng_base.specs.Fields.{length_of};
 
 use crate::got::Part;

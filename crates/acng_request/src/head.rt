@@ -77,7 +77,8 @@ pub fn front_head(bytes: &[u8], headers: &mut [HeaderSpan; FEW_FIELDS]) -> Optio
 fn find_head(block: &[u8], headers: &mut [HeaderSpan]) -> Option<RequestSpans>
     ensures within { IfSome result (IsRequestWithin block.now headers.new) }
     ensures some { IfSome result (IsRequestOf block.now headers.new) }
-    ensures none { IfNone result ((h : RequestHead) (rest : List ℕ) → length h.fields ≤ length headers.old → ReadsRequest block.now h rest → ⊥) }
+    ensures none { IfNone result ((h : RequestHead) (rest : List ℕ) → length h.fields ≤ length headers.old
+        → ReadsRequest block.now h rest → ⊥) }
 {
     match parse_request(block, headers) {
         Ok(Status::Complete(head)) => Some(head),

@@ -8,7 +8,8 @@ ghost use Rattle.std.specs.Prelude.{◌≡◌, ◌≢◌, ◌≤◌, ◌++◌, L
 ghost use Rattle.std.specs.Io.KnownBytes.{Keeps, IsAtEnd};
 ghost use Rattle.acng_base.specs.Buffers.{Moves};
 ghost use Rattle.acng_base.specs.Causes.{HasCause, Rose};
-ghost use Rattle.acng_request.specs.Gots.{IfRequest, UnlessRequest, UnlessClientFault, OnEnded, OnClientFault, OnNoMemory, IfRefused, GivesRequest, IsAsked, AskSome, ReadsWhileUndecided};
+ghost use Rattle.acng_request.specs.Gots.{IfRequest, UnlessRequest, UnlessClientFault, OnEnded, OnClientFault, OnNoMemory};
+ghost use Rattle.acng_request.specs.Gots.{IfRefused, GivesRequest, IsAsked, AskSome, ReadsWhileUndecided};
 ghost use Rattle.acng_request.specs.Nexts.{next, read_block, Refuses, Ends};
 ghost use Rattle.acng_request.specs.Spans.{Judges};
 ghost use Rattle.acng_request.specs.Blocks.{IsBlock, IsBlockOf, IsHeadBlock, IsUndecidedUnlessOk, OnIncomplete, TakesBlock};
@@ -146,7 +147,8 @@ fn take_judged(buf: &mut HeadBuf, len: usize, judged: Result<Request, Refusal>) 
 
 // The answer where a block is refused.
 fn refused(refusal: Refusal) -> Got
-    ensures { (bytes : List ℕ) (n : ℕ) → IsBlock bytes n → Judges (read_block (take n bytes)) (Err refusal) → TakesBlock bytes n bytes result }
+    ensures { (bytes : List ℕ) (n : ℕ) → IsBlock bytes n → Judges (read_block (take n bytes)) (Err refusal)
+        → TakesBlock bytes n bytes result }
 {
     match refusal {
         Refusal::Head(fault) => Got::Refused(fault),

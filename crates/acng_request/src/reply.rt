@@ -6,7 +6,9 @@
 //! longest tag has 256, a number 20 and a date 29. No memory is taken.
 ghost use Rattle.std.specs.Prelude.{◌≡◌, ◌+◌, ◌≤◌, List, ℕ, ◌++◌, [], true, Some, take, length, unwrap_or, codes, decimal};
 ghost use Rattle.http.specs.StatusCode.{reason_phrase};
-ghost use Rattle.acng_request.specs.ReplyHeads.{is_reply_status, IsWritable, IsDateOf, has_file, status_line, kind_text, type_line, framing_line, part_text, part_line, no_part_line, modified_line, tag_line, allow_line, connection_line, ended, head_text};
+ghost use Rattle.acng_request.specs.ReplyHeads.{is_reply_status, IsWritable, IsDateOf, has_file, status_line, kind_text};
+ghost use Rattle.acng_request.specs.ReplyHeads.{type_line, framing_line, part_text, part_line, no_part_line, modified_line};
+ghost use Rattle.acng_request.specs.ReplyHeads.{tag_line, allow_line, connection_line, ended, head_text};
 
 use acng_base::{Moment, Tag};
 use http::StatusCode;
