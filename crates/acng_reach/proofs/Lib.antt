@@ -3,3 +3,4 @@ pub mod Sets
 pub mod Bases
 pub mod Orders
 pub mod Fronts
+pub mod Tests

@@ -7,8 +7,8 @@ use Rattle.acng_index.specs.Releases.{release}
 use Rattle.acng_index.specs.Frames.{inrelease}
 use Rattle.acng_index.specs.declared.fault.IndexFault.TheVariants.{NoFrame, NoList, BadName}
 use Rattle.acng_reach.specs.Names.{sibling, base_of, is_diff, is_packed, is_packages}
-use Rattle.acng_reach.specs.Caches.{Cache, indexes}
-use Rattle.acng_reach.specs.Reaches.{is_reached, is_problem, is_named}
+use Rattle.acng_reach.specs.Caches.{Cache}
+use Rattle.acng_reach.specs.Reaches.{reached, problem, named}
 use Rattle.acng_reach.specs.Bodies.{first_above}
 
 -- ---- names
@@ -113,49 +113,49 @@ plain =
     ∷ (deb, codes "abc") ∷ [])
 
 -- the live folder isn't read, and its package isn't reached
-row_problem : is_problem packed (indexes packed) [] (d ++ codes "/main/binary-amd64") ≡ true
+row_problem : problem packed [] (d ++ codes "/main/binary-amd64") ≡ true
 unfolding decode_pairs encode_with sha256 digest_bytes hash_after compress rounds schedule first_words
 row_problem = refl
 
-row_unreached : is_reached packed (indexes packed) deb ≡ false
+row_unreached : reached packed deb ≡ false
 unfolding decode_pairs encode_with sha256 digest_bytes hash_after compress rounds schedule first_words
 row_unreached = refl
 
-row_packed_reached : is_reached packed (indexes packed) (d ++ codes "/main/binary-amd64/Packages.xz") ≡ true
+row_packed_reached : reached packed (d ++ codes "/main/binary-amd64/Packages.xz") ≡ true
 unfolding decode_pairs encode_with sha256 digest_bytes hash_after compress rounds schedule first_words
 row_packed_reached = refl
 
-row_signature : is_reached packed (indexes packed) (d ++ codes "/Release.gpg") ≡ true
+row_signature : reached packed (d ++ codes "/Release.gpg") ≡ true
 unfolding decode_pairs encode_with sha256 digest_bytes hash_after compress rounds schedule first_words
 row_signature = refl
 
-row_by_hash : is_reached packed (indexes packed) (d ++ codes "/main/binary-amd64/by-hash/SHA256/" ++ digits) ≡ true
+row_by_hash : reached packed (d ++ codes "/main/binary-amd64/by-hash/SHA256/" ++ digits) ≡ true
 unfolding decode_pairs encode_with sha256 digest_bytes hash_after compress rounds schedule first_words
 row_by_hash = refl
 
 -- what the plain list is to be, is named before it is there
-row_named_index : is_named (indexes packed) (sha256 packages_text) 126 (d ++ codes "/main/binary-amd64/Packages") ≡ true
+row_named_index : named packed (sha256 packages_text) 126 (d ++ codes "/main/binary-amd64/Packages") ≡ true
 unfolding decode_pairs encode_with sha256 digest_bytes hash_after compress rounds schedule first_words
 row_named_index = refl
 
-row_read : is_problem plain (indexes plain) [] (d ++ codes "/main/binary-amd64") ≡ false
+row_read : problem plain [] (d ++ codes "/main/binary-amd64") ≡ false
 unfolding decode_pairs encode_with sha256 digest_bytes hash_after compress rounds schedule first_words
 row_read = refl
 
-row_reached : is_reached plain (indexes plain) deb ≡ true
+row_reached : reached plain deb ≡ true
 unfolding decode_pairs encode_with sha256 digest_bytes hash_after compress rounds schedule first_words
 row_reached = refl
 
 -- `abc` is named, `abd` isn't, nor `abc` with another size
-row_named : is_named (indexes plain) (sha256 (codes "abc")) 3 deb ≡ true
+row_named : named plain (sha256 (codes "abc")) 3 deb ≡ true
 unfolding decode_pairs encode_with sha256 digest_bytes hash_after compress rounds schedule first_words
 row_named = refl
 
-row_unknown : is_named (indexes plain) (sha256 (codes "abd")) 3 deb ≡ false
+row_unknown : named plain (sha256 (codes "abd")) 3 deb ≡ false
 unfolding decode_pairs encode_with sha256 digest_bytes hash_after compress rounds schedule first_words
 row_unknown = refl
 
-row_other_size : is_named (indexes plain) (sha256 (codes "abc")) 4 deb ≡ false
+row_other_size : named plain (sha256 (codes "abc")) 4 deb ≡ false
 unfolding decode_pairs encode_with sha256 digest_bytes hash_after compress rounds schedule first_words
 row_other_size = refl
 
@@ -167,11 +167,11 @@ unsigned = cache_of ((d ++ codes "/InRelease", codes "SHA256:" ++ 10 ∷ []) ∷
 row_unsigned : inrelease (codes "SHA256:" ++ 10 ∷ []) ≡ Err (NoFrame 1)
 row_unsigned = refl
 
-row_unsigned_problem : is_problem unsigned (indexes unsigned) [] d ≡ true
+row_unsigned_problem : problem unsigned [] d ≡ true
 row_unsigned_problem = refl
 
 -- it is an index, so that the top folder is no problem
-row_unsigned_top : is_problem unsigned (indexes unsigned) [] [] ≡ false
+row_unsigned_top : problem unsigned [] [] ≡ false
 row_unsigned_top = refl
 
 row_no_list : release (codes "Suite: x" ++ 10 ∷ []) ≡ Err NoList
@@ -181,11 +181,11 @@ row_bad_name : packages (codes "Filename: ../x") ≡ Err (BadName 1)
 row_bad_name = refl
 
 -- bodies without an index
-row_no_index : is_problem (cache_of ((deb, codes "abc") ∷ [])) (indexes (cache_of ((deb, codes "abc") ∷ []))) [] [] ≡ true
+row_no_index : problem (cache_of ((deb, codes "abc") ∷ [])) [] [] ≡ true
 row_no_index = refl
 
-row_nothing : is_problem (cache_of []) (indexes (cache_of [])) [] [] ≡ false
+row_nothing : problem (cache_of []) [] [] ≡ false
 row_nothing = refl
 
-row_failed : is_problem (cache_of []) (indexes (cache_of [])) ((d ++ codes "/InRelease") ∷ []) d ≡ true
+row_failed : problem (cache_of []) ((d ++ codes "/InRelease") ∷ []) d ≡ true
 row_failed = refl

@@ -1,5 +1,7 @@
 pub mod Bodies
 pub mod Caches
+pub mod Found
 pub mod Names
+pub mod Paths
 pub mod Reaches
 pub mod Sets

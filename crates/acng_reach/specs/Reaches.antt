@@ -7,8 +7,8 @@ use Rattle.acng_base.specs.Names.{folder_of}
 use Rattle.acng_base.specs.declared.hash.Hash.{Hash}
 use Rattle.acng_index.specs.declared.name.Named.{Named}
 use Rattle.acng_reach.specs.Names.{sibling, joined, inner, base_of, place_of, by_hash_of, is_packed, is_diff}
-use Rattle.acng_reach.specs.Caches.{Cache, is_held}
-use Rattle.acng_reach.specs.Sets.{same}
+use Rattle.acng_reach.specs.Caches.{Cache, indexes}
+use Rattle.acng_reach.specs.Sets.{same, among}
 use Rattle.acng_reach.specs.declared.index.Listed.{Listed}
 use Rattle.acng_reach.specs.declared.index.Index.{Index}
 
@@ -22,61 +22,70 @@ some p (Some xs) = list_any p xs
 abbrev pub is_name : List ℕ → List ℕ → Named → Bool
 is_name base path n = same path (joined base n.path)
 
--- the path is in the folder of a list of differences
-abbrev pub is_beside : List ℕ → List ℕ → Listed → Bool
-is_beside folder path l = is_diff l.entry.path && same (folder_of path) (folder_of (place_of folder l.entry))
+-- the path is that of the entry's file, its name by the hash, or one of the names in its file
+abbrev pub given_by_entry : List ℕ → List ℕ → Listed → Bool
+given_by_entry folder path l =
+    same path (place_of folder l.entry) || same path (by_hash_of folder l.entry) || some (is_name (base_of folder) path) l.names
 
-abbrev pub reached_by_entry : Cache → List ℕ → List ℕ → Listed → Bool
-reached_by_entry c folder path l =
-    same path (place_of folder l.entry) || same path (by_hash_of folder l.entry)
-    || (is_held c path && is_beside folder path l) || some (is_name (base_of folder) path) l.names
-
--- the index itself, its signature, and what its list gives
-abbrev pub reached_by : Cache → List ℕ → Index → Bool
-reached_by c path x =
+-- the path is that of the index, of its signature, or given by an entry
+abbrev pub given_by : List ℕ → Index → Bool
+given_by path x =
     same path x.place || same path (sibling x.place (codes "Release.gpg"))
-    || some (reached_by_entry c (folder_of x.place) path) x.list
+    || some (given_by_entry (folder_of x.place) path) x.list
 
-abbrev pub is_reached : Cache → List Index → List ℕ → Bool
-is_reached c xs path = list_any (reached_by c path) xs
+-- the entry is a list of differences in this folder
+abbrev pub is_diff_in : List ℕ → List ℕ → Listed → Bool
+is_diff_in folder within l = is_diff l.entry.path && same within (folder_of (place_of folder l.entry))
+
+abbrev pub has_folder : List ℕ → Index → Bool
+has_folder within x = some (is_diff_in (folder_of x.place) within) x.list
+
+-- what the index gives, and each held path in the folder of one of its lists of differences
+abbrev pub reached_by : List (List ℕ) → List ℕ → Index → Bool
+reached_by held path x = given_by path x || (among path held && has_folder (folder_of path) x)
+
+abbrev pub is_reached : List (List ℕ) → List Index → List ℕ → Bool
+is_reached held xs path = list_any (reached_by held path) xs
 
 -- ---- problems
 
 -- the entry is a list of packages, packed or not, and held
-abbrev pub is_live : Cache → List ℕ → Listed → Bool
-is_live c folder l = is_packed l.entry.path && (is_held c (place_of folder l.entry) || is_held c (by_hash_of folder l.entry))
+abbrev pub is_live : List (List ℕ) → List ℕ → Listed → Bool
+is_live held folder l =
+    is_packed l.entry.path && (among (place_of folder l.entry) held || among (by_hash_of folder l.entry) held)
 
 -- the entry is in this folder, and read
 abbrev pub is_read : List ℕ → Listed → Bool
-is_read within l = same (folder_of l.entry.path) within && is_some l.names
+is_read within l = same within (folder_of l.entry.path) && is_some l.names
 
--- the entry makes its folder live, and no entry there is read
-abbrev pub is_unread : Cache → List ℕ → List Listed → Listed → Bool
-is_unread c folder ls l = is_live c folder l && not (list_any (is_read (folder_of l.entry.path)) ls)
+-- the entry makes its folder live, which has this name, and no entry there is read
+abbrev pub is_unread : List (List ℕ) → List ℕ → List ℕ → List Listed → Listed → Bool
+is_unread held text folder ls l =
+    same text (inner folder (folder_of l.entry.path))
+    && (is_live held folder l && not (list_any (is_read (folder_of l.entry.path)) ls))
 
-abbrev pub is_problem_of : Cache → List ℕ → List ℕ → List Listed → Listed → Bool
-is_problem_of c text folder ls l = same text (inner folder (folder_of l.entry.path)) && is_unread c folder ls l
+-- a live folder that isn't read, or the folder of an index that doesn't read
+abbrev pub problem_by : List (List ℕ) → List ℕ → Index → Bool
+problem_by held text x =
+    option_map_or (λ ls. list_any (is_unread held text (folder_of x.place) ls) ls) x.list (same text (folder_of x.place))
 
--- the folder of an index that doesn't read, or a live folder that isn't read
-abbrev pub problem_by : Cache → List ℕ → Index → Bool
-problem_by c text x =
-    option_map_or (λ ls. list_any (is_problem_of c text (folder_of x.place) ls) ls) x.list (same text (folder_of x.place))
+abbrev pub is_failed : List ℕ → List ℕ → Bool
+is_failed text path = same text (folder_of path)
 
 -- bodies are held, and no index among them
-abbrev pub is_lost : Cache → List Index → Bool
-is_lost c xs = not (length c.paths == 0) && length xs == 0
+abbrev pub is_lost : List (List ℕ) → List Index → Bool
+is_lost held xs = not (length held == 0) && length xs == 0
 
-abbrev pub is_failed : List (List ℕ) → List ℕ → Bool
-is_failed failed text = list_any (λ path. same text (folder_of path)) failed
-
-abbrev pub is_problem : Cache → List Index → List (List ℕ) → List ℕ → Bool
-is_problem c xs failed text = list_any (problem_by c text) xs || is_failed failed text || (is_empty text && is_lost c xs)
+abbrev pub is_problem : List (List ℕ) → List Index → List (List ℕ) → List ℕ → Bool
+is_problem held xs failed text =
+    list_any (problem_by held text) xs || list_any (is_failed text) failed || (is_empty text && is_lost held xs)
 
 -- ---- named
 
 abbrev pub is_file : List ℕ → ℕ → Option Hash → Option ℕ → Bool
+is_file hash size None s = false
+is_file hash size (Some h) None = false
 is_file hash size (Some h) (Some s) = bytes_eq h.0 hash && s == size
-is_file hash size _ _ = false
 
 -- a name in the base, with this hash and size
 abbrev pub names_file : List ℕ → List ℕ → ℕ → List ℕ → Named → Bool
@@ -92,3 +101,25 @@ named_by hash size path x = some (named_by_entry (folder_of x.place) hash size p
 
 abbrev pub is_named : List Index → List ℕ → ℕ → List ℕ → Bool
 is_named xs hash size path = list_any (named_by hash size path) xs
+
+-- ---- of a cache
+
+abbrev pub reached : Cache → List ℕ → Bool
+reached c path = is_reached c.paths (indexes c) path
+
+abbrev pub problem : Cache → List (List ℕ) → List ℕ → Bool
+problem c failed text = is_problem c.paths (indexes c) failed text
+
+abbrev pub named : Cache → List ℕ → ℕ → List ℕ → Bool
+named c hash size path = is_named (indexes c) hash size path
+
+-- ---- what code keeps of it
+
+-- the path is this held one, in one of these folders
+abbrev pub is_in : List (List ℕ) → List ℕ → List ℕ → Bool
+is_in folders path held = same path held && among (folder_of held) folders
+
+-- the entry makes its folder live, which has this name and isn't among the read ones
+abbrev pub is_unread_by : List (List ℕ) → List ℕ → List ℕ → List (List ℕ) → Listed → Bool
+is_unread_by held text folder read l =
+    same text (inner folder (folder_of l.entry.path)) && (is_live held folder l && not (among (folder_of l.entry.path) read))

@@ -49,6 +49,7 @@ pub trait Bodies: Drop {
 pub fn held_paths<B: Bodies>(alloc: Global, bodies: &B) -> Result<Vec<CachePath>, NoMemory>
     ensures paths { IfOk result (λ paths. paths.items ≡ (B.cache bodies.now).paths) }
     ensures are_paths { OnOk result (ArePaths (B.cache bodies.now).paths) }
+    ensures rises { OnOk result (Rises (B.cache bodies.now).paths) }
 {
     let mut paths = Vec::new(alloc);
     while let Some(path) = bodies.next_path(last(&paths)) {

@@ -8,9 +8,12 @@ mod bodies;
 mod find;
 mod index;
 mod name;
+mod named;
+mod problems;
+mod reach;
+mod reached;
 mod set;
 
-pub use bodies::{Bodies, held_paths};
-pub use find::find_indexes;
+pub use bodies::Bodies;
 pub use index::{Index, Listed, Lists};
-pub use set::TextSet;
+pub use reach::Reach;

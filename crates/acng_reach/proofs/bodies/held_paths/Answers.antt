@@ -51,3 +51,6 @@ returns-clause-are_paths g c =
     let last = c.last.ensures ∙ ap last_of c.deref.ensures.value in
     let none = sym (next_step keys ps c.next_path.ensures.rises front) ∙ ap (λ o. first_above o keys) (sym last) ∙ sym c.in_default.ensures.next in
     subst ArePaths (front_all keys ps front none) c.loop-path.invariant.are_paths
+
+pub returns-clause-rises : goal.returns-clause-rises
+returns-clause-rises g c = c.next_path.ensures.rises
