@@ -21,3 +21,4 @@ pub mod Startings
 pub mod Stores
 pub mod Wholes
 pub mod Wholly
+pub mod Removings

@@ -13,6 +13,7 @@ mod joint;
 mod lead;
 mod looks;
 mod part;
+mod removing;
 mod settle;
 mod settling;
 mod start;
