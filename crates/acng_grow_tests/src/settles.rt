@@ -77,6 +77,26 @@ fn a_held_file_is_kept(rt: HostRuntime) -> Result<(), Fail> {
     Ok(())
 }
 
+// Which of two flushes is refused, where the keeper's call of this number fails. The body is made by the calls 0 and 1.
+fn refused_flush(alloc: Global, failing: u64) -> Result<Option<u64>, Unmade> {
+    let mut body: Body = running(alloc, &[failing], b"ab", None)?;
+    for flush in 0..2u64 {
+        if body.flush().is_err() {
+            return Ok(Some(flush));
+        }
+    }
+    Ok(None)
+}
+
+#[test]
+fn a_flush_is_one_call_of_the_file(rt: HostRuntime) -> Result<(), Fail> {
+    let alloc = rt.alloc();
+    assert!(rt; matches!(refused_flush(alloc, 2), Ok(Some(0))));
+    assert!(rt; matches!(refused_flush(alloc, 3), Ok(Some(1))));
+    assert!(rt; matches!(refused_flush(alloc, 4), Ok(None)));
+    Ok(())
+}
+
 // Whether the body of three bytes is to be seen so.
 fn shows(alloc: Global, file: u64, stage: Stage, size: u64, first: u64) -> Result<bool, Unmade> {
     let body: Body = running(alloc, &[], b"abc", None)?;
