@@ -22,3 +22,4 @@ pub mod Stores
 pub mod Wholes
 pub mod Wholly
 pub mod Removings
+pub mod Importings

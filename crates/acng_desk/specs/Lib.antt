@@ -3,6 +3,7 @@ pub mod Calls
 pub mod Codes
 pub mod Commands
 pub mod House
+pub mod Imports
 pub mod Keeps
 pub mod Looks
 pub mod Settles

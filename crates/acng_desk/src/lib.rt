@@ -9,6 +9,7 @@ mod ending;
 mod ends;
 mod entry;
 mod facts;
+mod imports;
 mod joint;
 mod lead;
 mod looks;
