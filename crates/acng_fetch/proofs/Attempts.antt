@@ -5,22 +5,22 @@ use Rattle.std.proofs.lemmas.Bool.{eqb-true}
 use Rattle.std.proofs.lemmas.List.{length-take, length-drop, take_all}
 use Rattle.std.specs.Prelude.{⊤}
 use Rattle.acng_base.specs.Heads.{Head}
-use Rattle.acng_base.specs.Fields.{content_range, tag_of}
+use Rattle.acng_base.specs.Fields.{content_range}
 use Rattle.acng_base.specs.Answers.{Reading, answer_limit}
 use Rattle.acng_site.specs.declared.ask.Ask.{Ask}
 use Rattle.acng_site.specs.declared.site.Site.{Ghosts as SiteGhosts}
-use Rattle.acng_site.specs.Honest.{heard, IsFront, Carries, CarriesPart, GaveTag, IsHonest, part_of}
+use Rattle.acng_site.specs.Honest.{heard, IsFront, Carries, GaveTag, IsHonest}
 use Rattle.acng_head.specs.declared.head.Label.TheVariants.{Fetched}
 use Rattle.acng_grow.specs.declared.facts.Facts.{Facts}
 use Rattle.acng_grow.specs.declared.why.Shown.{Shown}
 use Rattle.acng_grow.specs.Effects.{Errand, Part, Old, Start, GoOn, opening, from_part}
 use Rattle.acng_grow.specs.Download.{Asking, Turn, ask_of, led_by, flows, facts_of, is_rest}
-use Rattle.acng_grow.specs.Stands.{IsGiven, FactsStand, IsLength}
+use Rattle.acng_grow.specs.Stands.{IsGiven, IsLength}
 use Rattle.acng_grow.specs.Keeps.{most_bytes, attempts_end}
 use Rattle.acng_grow.specs.Allowed.{MayStart, MayGoOn, MayKeep}
 use Rattle.acng_fetch.specs.Orders.{PartKeeps, OldKeeps}
-use Rattle.acng_fetch.specs.Fits.{Continues, Leads, IsFrom}
-use Rattle.acng_fetch.proofs.Tests.{both, some_is, of_some, if_some}
+use Rattle.acng_fetch.specs.Fits.{Continues, Leads}
+use Rattle.acng_fetch.proofs.Tests.{both, of_some, if_some}
 use Rattle.acng_fetch.proofs.BodyBound.{body_within}
 use Rattle.acng_fetch.proofs.FieldBounds.{range_small, facts_dated}
 use Rattle.acng_fetch.proofs.Turns.{flows_lead, led}

@@ -1,5 +1,5 @@
 -- A body that comes in pieces.
-use Rattle.std.proofs.Common.{◌≡◌, ◌≤◌, ◌<◌, ℕ, ◌+◌, ◌-◌, true, List, [], ◌∷◌, ◌++◌, length, length-append, Option, Some, None, IfSome}
+use Rattle.std.proofs.Common.{◌≡◌, ◌≤◌, ◌<◌, ℕ, ◌+◌, ◌-◌, List, [], ◌∷◌, ◌++◌, length, length-append, Option, Some, None, IfSome}
 use Rattle.std.proofs.Common.{refl, ap, sym, subst, ◌∙◌, arith}
 use Rattle.acng_base.specs.Answers.{Reading, Outcome, after_body, nothing}
 use Rattle.acng_site.specs.declared.site.Site.{Ghosts as SiteGhosts}
@@ -9,12 +9,12 @@ use Rattle.acng_grow.specs.declared.facts.Facts.{Facts}
 use Rattle.acng_grow.specs.declared.facts.Seen.{Seen}
 use Rattle.acng_grow.specs.Effects.{Errand, Part, Effect, Bytes, GoOn, after, from_part, runs, went_on}
 use Rattle.acng_grow.specs.Download.{Turn, led_by, led_by_bytes, ends, flows}
-use Rattle.acng_grow.specs.Keeps.{HasRoom, HasTotal, most_bytes}
+use Rattle.acng_grow.specs.Keeps.{most_bytes}
 use Rattle.acng_grow.specs.Allowed.{MayAdd, AllAllowed}
 use Rattle.acng_grow.proofs.Kept.{cut_bytes}
 use Rattle.acng_fetch.specs.declared.standing.Turned.{Turned}
 use Rattle.acng_fetch.specs.Loads.{RunsIn, Turns, url_of}
-use Rattle.acng_fetch.specs.Rooms.{Room, HasDue}
+use Rattle.acng_fetch.specs.Rooms.{Room}
 use Rattle.acng_fetch.proofs.Tests.{some_is}
 
 abbrev pub longer : Seen → ℕ → Seen

@@ -1,5 +1,5 @@
 -- The body of a reading has at most as many bytes as the text that is read.
-use Rattle.std.proofs.Common.{◌≡◌, ◌≤◌, ℕ, zero, suc, ◌+◌, ◌-◌, Bool, true, false, List, [], ◌∷◌, ◌++◌, length, length-append, take, drop}
+use Rattle.std.proofs.Common.{◌≡◌, ◌≤◌, ℕ, zero, suc, ◌+◌, Bool, true, false, List, [], ◌∷◌, length, length-append, take, drop}
 use Rattle.std.proofs.Common.{Option, Some, None, cond, nat_le, nat_lt, ◌==◌, refl, ap, arith}
 use Rattle.std.proofs.lemmas.Bool.{leb-true}
 use Rattle.std.proofs.lemmas.List.{length-take, length-drop}
@@ -7,7 +7,7 @@ use Rattle.acng_base.specs.Lines.{head_block_len, section_len}
 use Rattle.acng_base.specs.Heads.{Head, head_of}
 use Rattle.acng_base.specs.Framings.{Framing, Empty, Chunks, ToEnd, Counted, framing, part_len}
 use Rattle.acng_base.specs.SizeLines.{first_line_len, size_of}
-use Rattle.acng_base.specs.Answers.{Outcome, Bad, Reading, reading, just, after_body, wants_more, Whole, Open, counted_body, open_body}
+use Rattle.acng_base.specs.Answers.{Bad, Reading, reading, just, wants_more, Whole, Open, open_body}
 use Rattle.acng_base.specs.Answers.{on_trailer, Seam, Joined, Torn, seam, part_after, less_than, is_due, on_last, on_seam, on_bytes}
 use Rattle.acng_base.specs.Answers.{on_room, on_size, on_line, chunks, body, is_interim, framed, on_kind, on_head, on_block, heads}
 use Rattle.acng_base.specs.Answers.{from_head, on_limit}

@@ -1,5 +1,5 @@
 -- On an honest site each effect of a download is allowed where it comes.
-use Rattle.std.proofs.Common.{◌≡◌, ◌≤◌, ◌<◌, ℕ, zero, suc, ◌+◌, true, ◌&&◌, ◌==◌, List, [], ◌∷◌, ◌++◌, Option, Some, None, IfSome}
+use Rattle.std.proofs.Common.{◌≡◌, ◌≤◌, ◌<◌, ℕ, zero, suc, ◌+◌, true, ◌&&◌, ◌==◌, List, [], ◌∷◌, Option, Some, None, IfSome}
 use Rattle.std.proofs.Common.{refl, sym, subst, arith, not}
 use Rattle.std.proofs.lemmas.Bool.{eqb-true}
 use Rattle.acng_base.specs.Heads.{Head}
@@ -14,17 +14,17 @@ use Rattle.acng_grow.specs.declared.facts.Facts.{Facts}
 use Rattle.acng_grow.specs.declared.facts.Seen.{Seen}
 use Rattle.acng_grow.specs.declared.why.Shown.{Shown}
 use Rattle.acng_grow.specs.declared.why.Shown.TheVariants as shown
-use Rattle.acng_grow.specs.Effects.{Errand, Part, Effect, Cut, Resume, Texts, opening, runs, spells}
+use Rattle.acng_grow.specs.Effects.{Errand, Part, Cut, Resume, opening, runs}
 use Rattle.acng_grow.specs.Download.{Stand, Asking, Going, After, Done, On, Turn, ask_of, led_by, flows, ends_with, is_rest, Verdict}
 use Rattle.acng_grow.specs.Download.{Begins, GoesOn, Stays, Follows, Passes, decides, cause_of, headless, turn_by, turn, verdict, worn}
-use Rattle.acng_grow.specs.Download.{goes_on, begins, download}
-use Rattle.acng_grow.specs.Keeps.{Keeps, attempts_end}
-use Rattle.acng_grow.specs.Allowed.{AllAllowed, MayCut, TextsStand}
+use Rattle.acng_grow.specs.Download.{goes_on, begins}
+use Rattle.acng_grow.specs.Keeps.{attempts_end}
+use Rattle.acng_grow.specs.Allowed.{AllAllowed}
 use Rattle.acng_grow.proofs.Kept.{allowed_append, front_keeps, opens}
 use Rattle.acng_fetch.specs.Orders.{AllServe, PartKeeps, ErrandKeeps}
-use Rattle.acng_fetch.specs.Fits.{running, IsRefusal, IsCutFrom, IsAsking, IsGoing, Fits, Leads, Heard}
+use Rattle.acng_fetch.specs.Fits.{running, IsRefusal, IsCutFrom, IsAsking, IsGoing, Fits, Leads}
 use Rattle.acng_fetch.specs.Judges.{Judges}
-use Rattle.acng_fetch.specs.Law.{MayLoad, DownloadsAllowed, DownloadsKeep}
+use Rattle.acng_fetch.specs.Law.{DownloadsAllowed, DownloadsKeep}
 use Rattle.acng_fetch.proofs.Tests.{by_test, both, of_some}
 use Rattle.acng_fetch.proofs.Turns.{flows_lead, led, passes_lead, may_cut_by, early_lawful, open_lawful, bad_lawful}
 use Rattle.acng_fetch.proofs.Verdicts.{Got, judged}

@@ -1,13 +1,12 @@
 -- What the fields of a head say is bounded: places of a range by 2^41, dates by the year 10000.
 use Rattle.std.proofs.Common.{◌≡◌, ◌≤◌, ◌<◌, ◌^◌, ◌&&◌, ℕ, Bool, true, false, List, Option, Some, None, IfSome, cond, nat_le, nat_lt}
-use Rattle.std.proofs.Common.{length, option_map, option_and_then, if◌then◌else◌, bytes_eq, take, drop, codes, refl, subst, sym, arith}
+use Rattle.std.proofs.Common.{length, option_map, option_and_then, if◌then◌else◌, bytes_eq, take, drop, codes, refl, arith}
 use Rattle.std.specs.List.{list_all}
 use Rattle.std.specs.Char.{is_ascii_digit}
 use Rattle.std.specs.Str.Parse.{digits_value}
 use Rattle.std.proofs.lemmas.Bool.{leb-true}
 use Rattle.httpdate.specs.declared.parts.Parts.{Parts}
-use Rattle.httpdate.specs.Valid.{IsValid, is_valid, parts_secs}
-use Rattle.httpdate.specs.Calendar.{days_from_civil}
+use Rattle.httpdate.specs.Valid.{is_valid, parts_secs}
 use Rattle.httpdate.specs.Date.{parse_secs, valid_secs}
 use Rattle.httpdate.specs.Reader.{parse}
 use Rattle.httpdate.proofs.ValidLemmas.{is_valid_sound}
@@ -18,7 +17,6 @@ use Rattle.acng_base.specs.Moments.{moment_limit}
 use Rattle.acng_base.specs.Fields.{field, length_of, leads_with_zero, plain_number, range_by, range_at, range_of, content_range}
 use Rattle.acng_grow.specs.Keeps.{IsDated, most_bytes}
 use Rattle.acng_grow.specs.Download.{facts_of}
-use Rattle.acng_fetch.proofs.Tests.{both}
 
 -- ---- ranges
 

@@ -1,5 +1,5 @@
 -- When an effect may come: what is always so, and what the law says where the site tells, together.
-use Rattle.std.proofs.Common.{◌≡◌, ◌≤◌, ◌<◌, ℕ, ◌+◌, true, List, length, Option, None, Some, IfSome, ap, refl, arith}
+use Rattle.std.proofs.Common.{◌≡◌, ◌≤◌, ◌<◌, ℕ, ◌+◌, true, List, length, Option, None, Some, IfSome, ap, arith}
 use Rattle.acng_site.specs.declared.site.Site.{Ghosts as SiteGhosts}
 use Rattle.acng_head.specs.declared.head.Label.{Label}
 use Rattle.acng_head.specs.declared.head.Label.TheVariants.{Fetched, Imported}
@@ -11,9 +11,9 @@ use Rattle.acng_grow.specs.Causes.{named, may_cut, may_refuse}
 use Rattle.acng_grow.specs.Effects.{Part, Old, opening, last_of}
 use Rattle.acng_grow.specs.Stands.{IsLength}
 use Rattle.acng_grow.specs.Keeps.{IsDated, HasRoom, HasTotal, NotBelow, most_bytes, attempts_end}
-use Rattle.acng_grow.specs.Allowed.{MayStart, MayGoOn, MayResume, MayAdd, MayFinish, MayKeep, MayRefuse, MayCut}
+use Rattle.acng_grow.specs.Allowed.{MayStart, MayGoOn, MayAdd, MayFinish, MayKeep, MayRefuse, MayCut}
 use Rattle.acng_fetch.specs.Orders.{PartKeeps, OldKeeps}
-use Rattle.acng_fetch.specs.Loads.{IsAmong, RunsIn, Cuts}
+use Rattle.acng_fetch.specs.Loads.{IsAmong, Cuts}
 use Rattle.acng_fetch.proofs.Tests.{of_some, if_some}
 
 module _ {S : Type 0} (s : SiteGhosts S) (path : List ℕ) (g : Seen) where

@@ -1,7 +1,6 @@
 -- Downloads from a site whose bytes are written out, and that such a site is honest.
-use Rattle.std.proofs.Common.{◌≡◌, ℕ, Bool, true, false, not, List, [], ◌∷◌, ◌++◌, Some, None, codes, cond, ◌==◌, bytes_eq, length}
+use Rattle.std.proofs.Common.{◌≡◌, ℕ, Bool, true, false, not, List, [], ◌∷◌, ◌++◌, Some, None, codes, cond, ◌==◌}
 use Rattle.std.proofs.Common.{refl, sym, ap, subst, ◌∙◌, arith}
-use Rattle.std.specs.Prelude.{⊤}
 use Rattle.httparse.specs.Grammar.{is_token_byte, print_response, trim_ows}
 use Rattle.acng_base.specs.Heads.{Head}
 use Rattle.acng_base.specs.Fields.{content_range}
@@ -9,10 +8,9 @@ use Rattle.acng_base.specs.Framings.{total_of}
 use Rattle.acng_base.specs.Answers.{Reading, reading, answer_limit}
 use Rattle.acng_base.specs.Answers.Outcome.{Whole, Open}
 use Rattle.acng_site.specs.declared.site.Site.{Ghosts as SiteGhosts}
-use Rattle.acng_site.specs.Places.{is_redirect}
 use Rattle.acng_site.specs.Honest.{IsHonest, IsHonestAnswer, CarriesPart, heard}
 use Rattle.acng_grow.specs.declared.facts.Facts.{Facts}
-use Rattle.acng_grow.specs.Effects.{Errand, Start, GoOn, Resume, Bytes, Finish, opening}
+use Rattle.acng_grow.specs.Effects.{Errand, Start, Resume, Bytes, Finish, opening}
 use Rattle.acng_grow.specs.Download.{download}
 use Rattle.acng_grow.specs.Allowed.{AllAllowed}
 use Rattle.acng_fetch.specs.Law.{MayLoad}

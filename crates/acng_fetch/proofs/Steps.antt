@@ -1,14 +1,13 @@
 -- One attempt more.
-use Rattle.std.proofs.Common.{◌≡◌, ◌≤◌, ◌<◌, ℕ, zero, suc, ◌+◌, ◌-◌, true, List, [], ◌∷◌, ◌++◌, Option, Some, None, IfSome}
+use Rattle.std.proofs.Common.{◌≡◌, ◌≤◌, ℕ, zero, suc, ◌+◌, ◌-◌, List, [], ◌∷◌, ◌++◌, Option, Some, None, IfSome}
 use Rattle.std.proofs.Common.{refl, ap, sym, subst, ◌∙◌, arith}
 use Rattle.acng_base.specs.Answers.{Reading}
 use Rattle.acng_site.specs.declared.ask.Ask.{Ask}
 use Rattle.acng_site.specs.declared.site.Site.{Ghosts as SiteGhosts}
-use Rattle.acng_site.specs.Honest.{IsHonest, heard}
+use Rattle.acng_site.specs.Honest.{heard}
 use Rattle.acng_grow.specs.declared.facts.Seen.{Seen}
 use Rattle.acng_grow.specs.Effects.{Errand, Part, Effect, after, runs}
 use Rattle.acng_grow.specs.Download.{Stand, After, On, ask_of, turn, goes_on, left_of, worn}
-use Rattle.acng_grow.specs.Keeps.{attempts_end}
 use Rattle.acng_grow.specs.Allowed.{AllAllowed}
 use Rattle.acng_fetch.specs.declared.standing.Standing.{Standing}
 use Rattle.acng_fetch.specs.declared.standing.Turned.TheVariants as turned

@@ -6,9 +6,8 @@ use Rattle.acng_base.specs.Answers.{Outcome, Reading, after_head}
 use Rattle.acng_site.specs.Places.{place_of}
 use Rattle.acng_answer.specs.Blocks.{answer_head}
 use Rattle.acng_answer.specs.declared.step.AnswerHead.{AnswerHead}
-use Rattle.acng_grow.specs.declared.why.Shown.{Shown}
 use Rattle.acng_grow.specs.Effects.{Errand, Part}
-use Rattle.acng_grow.specs.Download.{Stand, Asking, Going, Turn, Verdict, Begins, GoesOn, Stays, Follows, Passes}
+use Rattle.acng_grow.specs.Download.{Stand, Asking, Going, Verdict, Begins, GoesOn, Stays, Follows, Passes}
 use Rattle.acng_grow.specs.Download.{verdict, decides, headed, turn}
 use Rattle.acng_fetch.specs.Decisions.{verdict_told, decides_told, headed_told}
 

@@ -1,5 +1,5 @@
 -- What follows a head: its effects are allowed, and what is true between attempts is true after it.
-use Rattle.std.proofs.Common.{◌≡◌, ◌≤◌, ◌<◌, ℕ, ◌+◌, true, ◌&&◌, List, [], ◌∷◌, length, Option, Some, None, IfSome, is_some}
+use Rattle.std.proofs.Common.{◌≡◌, ◌≤◌, ℕ, ◌+◌, true, ◌&&◌, List, [], ◌∷◌, length, is_some}
 use Rattle.std.proofs.Common.{refl, subst, sym, ◌∙◌, arith, not}
 use Rattle.std.proofs.lemmas.Bool.{not-false}
 use Rattle.acng_base.specs.Answers.{Outcome, answer_limit}
@@ -15,7 +15,7 @@ use Rattle.acng_grow.specs.declared.why.Shown.TheVariants as shown
 use Rattle.acng_grow.specs.Causes.{IsLawful}
 use Rattle.acng_grow.specs.Effects.{Errand, Effect, Cut, opening, after}
 use Rattle.acng_grow.specs.Download.{Going, Turn, ends_with, goes_to, led_by, stops, ends, flows, next_origin}
-use Rattle.acng_grow.specs.Keeps.{HasTotal, HasRoom, most_bytes}
+use Rattle.acng_grow.specs.Keeps.{HasTotal, HasRoom}
 use Rattle.acng_grow.specs.Allowed.{Allowed, MayCut, MayAdd, MayFinish}
 use Rattle.acng_fetch.specs.Orders.{AllServe}
 use Rattle.acng_fetch.specs.Fits.{running, IsFrom, IsRefusal, IsCutFrom, Continues, Heard, Leads}

@@ -1,5 +1,5 @@
 -- What comes of an answer, one event at a time, and what is left of its reading.
-use Rattle.std.specs.Prelude.{◌≡◌, ℕ, ◌+◌, ◌-◌, ◌<◌, ◌≤◌, ◌^◌, Bool, true, not, List, ◌++◌, length, slice_range, Option, Some, None, IsSome}
+use Rattle.std.specs.Prelude.{◌≡◌, ℕ, ◌+◌, ◌-◌, ◌<◌, ◌≤◌, ◌^◌, true, not, List, ◌++◌, length, slice_range, Option, Some, None, IsSome}
 use Rattle.std.specs.Prelude.{IfSome, ⊤}
 use Rattle.acng_site.specs.declared.conn.Conn.{Ghosts as ConnGhosts}
 use Rattle.acng_base.specs.Heads.{Head as AnswerOf}
@@ -7,12 +7,11 @@ use Rattle.acng_base.specs.Fields.{location_of}
 use Rattle.acng_base.specs.Answers.{Reading, Outcome, Whole, Early, Open, Bad, nothing, after_head, after_body}
 use Rattle.acng_answer.specs.Blocks.{answer_head}
 use Rattle.acng_answer.specs.Stages.{IsDone}
-use Rattle.acng_answer.specs.Reader.{State, rest, due_told, CountsOff}
+use Rattle.acng_answer.specs.Reader.{rest, due_told, CountsOff}
 use Rattle.acng_answer.specs.declared.step.AnswerHead.{AnswerHead}
 use Rattle.acng_answer.specs.declared.step.Step.{Step}
 use Rattle.acng_answer.specs.declared.step.Step.TheVariants as step
 use Rattle.acng_fetch.specs.declared.exchange.Exchange.{Exchange}
-use Rattle.acng_fetch.specs.declared.exchange.Pending.{Pending}
 use Rattle.acng_fetch.specs.declared.exchange.End.{End}
 use Rattle.acng_fetch.specs.declared.exchange.End.TheVariants as ends
 use Rattle.acng_fetch.specs.declared.exchange.Event.{Event}

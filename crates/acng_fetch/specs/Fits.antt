@@ -14,7 +14,7 @@ use Rattle.acng_grow.specs.Causes.{IsLawful, may_cut, may_refuse}
 use Rattle.acng_grow.specs.Effects.{Errand, Part, opening, runs}
 use Rattle.acng_grow.specs.Download.{Asking, Going, After, Done, On, Turn}
 use Rattle.acng_grow.specs.Stands.{IsGiven, StandsAt}
-use Rattle.acng_grow.specs.Keeps.{IsDated, NotBelow, most_bytes}
+use Rattle.acng_grow.specs.Keeps.{NotBelow, most_bytes}
 use Rattle.acng_grow.specs.Allowed.{AllAllowed}
 use Rattle.acng_fetch.specs.Orders.{AllServe}
 

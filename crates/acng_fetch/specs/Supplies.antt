@@ -1,5 +1,5 @@
 -- What a download is supplied with, as contracts see it, and what it keeps.
-use Rattle.std.specs.Prelude.{◌≡◌, ℕ, Bool, true, false, not, ◌&&◌, List, [], Option, None, Some, option_map, is_some}
+use Rattle.std.specs.Prelude.{◌≡◌, ℕ, Bool, true, false, not, ◌&&◌, List, [], Option, option_map, is_some}
 use Rattle.std.specs.Prelude.{IfSome, IsSomeAnd}
 use Rattle.acng_head.specs.declared.head.Label.{Label}
 use Rattle.acng_head.specs.declared.head.Label.TheVariants.{Fetched}

@@ -1,9 +1,8 @@
-use Rattle.std.proofs.Common.{◌≡◌, ◌+◌, ◌-◌, ◌<◌, ◌≤◌, ℕ, true, IsSome, length, slice_range, ap, ◌∙◌, sym, subst, arith}
-use Rattle.acng_base.specs.Answers.{Reading, after_body}
+use Rattle.std.proofs.Common.{◌≡◌, ◌+◌, ◌-◌, ◌<◌, ◌≤◌, true, IsSome, length, slice_range, ap, ◌∙◌, sym, subst, arith}
+use Rattle.acng_base.specs.Answers.{after_body}
 use Rattle.acng_answer.specs.Reader.{due}
 use Rattle.acng_grow.specs.Keeps.{HasRoom, most_bytes}
 use Rattle.acng_fetch.specs.Events.{left_of}
-use Rattle.acng_fetch.specs.Rooms.{Room}
 use Rattle.acng_fetch.proofs.Bodies.{longer, room_next, room_at, piece_of_left, next_allowed, runs_more, plan_more, rest_more, outcome_more}
 use Rattle.acng_fetch.proofs.May.{add_may}
 use Rattle.acng_fetch.proofs.Pieces.{length-slice_range}

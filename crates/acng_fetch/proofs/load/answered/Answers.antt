@@ -1,4 +1,4 @@
-use Rattle.std.proofs.Common.{◌≡◌, ◌∙◌, sym, subst}
+use Rattle.std.proofs.Common.{◌∙◌, sym, subst}
 use Rattle.acng_answer.specs.Blocks.{answer_head}
 use Rattle.acng_grow.specs.Allowed.{AllAllowed}
 use Rattle.acng_fetch.specs.Events.{left_of}

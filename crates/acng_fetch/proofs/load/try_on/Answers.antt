@@ -5,9 +5,8 @@ use Rattle.acng_grow.specs.Keeps.{attempts_end}
 use Rattle.acng_fetch.specs.declared.standing.Turned.TheVariants as turned
 use Rattle.acng_fetch.specs.Loads.{StandsIn, Turns, stand_of}
 use Rattle.acng_fetch.specs.Orders.{ErrandKeeps}
-use Rattle.acng_fetch.specs.Stocks.{Stock}
 use Rattle.acng_fetch.proofs.Downloads.{Given}
-use Rattle.acng_fetch.proofs.Steps.{errand_sooner, turn_allowed, turn_fits, goes_at, left_at, worn_at, none_left}
+use Rattle.acng_fetch.proofs.Steps.{errand_sooner, turn_allowed, turn_fits, goes_at, left_at}
 use Rattle.acng_fetch.proofs.load.try_on.Goals as goal
 
 pub attempt_once-requires-clause-keeps : goal.attempt_once-requires-clause-keeps

@@ -4,7 +4,6 @@ use Rattle.acng_grow.specs.Effects.{runs}
 use Rattle.acng_grow.specs.Download.{On, goes_on, left_of}
 use Rattle.acng_fetch.specs.Fits.{Fits}
 use Rattle.acng_fetch.specs.Loads.{IsTried, StandsIn, stand_of}
-use Rattle.acng_fetch.specs.Orders.{ErrandKeeps}
 use Rattle.acng_fetch.specs.Stocks.{Agrees}
 use Rattle.acng_fetch.proofs.load.try_on.Given as goal
 

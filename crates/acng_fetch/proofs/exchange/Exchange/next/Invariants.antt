@@ -1,4 +1,4 @@
-use Rattle.std.proofs.Common.{◌≡◌, ◌-◌, ◌^◌, ◌<◌, ◌≤◌, true, length}
+use Rattle.std.proofs.Common.{◌≡◌, ◌-◌, ◌≤◌, true}
 use Rattle.acng_answer.specs.Reader.{due}
 use Rattle.acng_fetch.specs.Events.{IsReady, left_of}
 use Rattle.acng_fetch.proofs.exchange.Exchange.next.Given as goal
