@@ -106,7 +106,10 @@ next_allowed s path path' e n p p' piece rest outcome a b h =
 -- ---- the plan
 
 pub runs_more : (first n k : ℕ) (p p' : Seen) → p' ≡ longer p k → RunsIn first p n → RunsIn first p' n
-runs_more first n k p p' h r = subst (λ (x : Seen). RunsIn first x n) (sym h) (record { running = r.running; among = r.among })
+runs_more first n k p p' h r =
+    let now : RunsIn first (longer p k) n
+    = record { running = r.running; unshown = r.unshown; among = r.among } in
+    subst (λ (x : Seen). RunsIn first x n) (sym h) now
 
 pub plan_more : (p p' q : Seen) (k : ℕ) → p' ≡ longer p k → p ≡ record q { size = p.size } → p' ≡ record q { size = p'.size }
 plan_more p p' q k h i = subst (λ (x : Seen). x ≡ record q { size = x.size }) (sym h) (ap (λ (x : Seen). longer x k) i)

@@ -3,6 +3,7 @@ pub mod Bodies
 pub mod BodyBound
 pub mod Downloads
 pub mod FieldBounds
+pub mod LeadLemmas
 pub mod May
 pub mod Pieces
 pub mod Plain

@@ -1,5 +1,5 @@
 -- When an effect may come: what is always so, and what the law says where the site tells, together.
-use Rattle.std.proofs.Common.{◌≡◌, ◌≤◌, ◌<◌, ℕ, ◌+◌, true, List, length, Option, None, Some, IfSome, ap, arith}
+use Rattle.std.proofs.Common.{◌≡◌, ◌≤◌, ◌<◌, ℕ, ◌+◌, true, List, length, Option, None, Some, IfSome, IsSomeAnd, ap, arith}
 use Rattle.acng_site.specs.declared.site.Site.{Ghosts as SiteGhosts}
 use Rattle.acng_head.specs.declared.head.Label.{Label}
 use Rattle.acng_head.specs.declared.head.Label.TheVariants.{Fetched, Imported}
@@ -75,9 +75,9 @@ module _ {S : Type 0} (s : SiteGhosts S) (path : List ℕ) (g : Seen) where
 -- ---- causes and attempts
 
 -- a cause that names attempt n isn't below a label whose last attempt isn't after it
-pub order_at : (o : Option Label) (first n : ℕ) (c : Shown) → IfSome o (IsAmong first (n + 1)) → named c ≡ Some n
+pub order_at : (o : Option Label) (first n : ℕ) (c : Shown) → IsSomeAnd o (IsAmong first (n + 1)) → named c ≡ Some n
     → IfSome o (λ l. NotBelow l c)
-order_at None first n c i e = tt
+order_at None first n c i e = absurd i
 order_at (Some (Fetched a b)) first n c i e = if_some (named c) (λ k. b ≤ k) (λ k is. let same : n ≡ k = cc in omega (arith, i.1, same))
 order_at (Some (Imported hash size)) first n c i e = absurd i
 
@@ -87,12 +87,12 @@ order_of (Some (Fetched a b)) c k = k.order
 order_of (Some (Imported hash size)) c k = tt
 
 -- the last attempt of such a label
-pub last_among : (o : Option Label) (first n : ℕ) → IfSome o (IsAmong first (n + 1)) → last_of o ≤ n
-last_among None first n i = omega arith
+pub last_among : (o : Option Label) (first n : ℕ) → IsSomeAnd o (IsAmong first (n + 1)) → last_of o ≤ n
+last_among None first n i = absurd i
 last_among (Some (Fetched a b)) first n i = omega (arith, i.1)
 last_among (Some (Imported hash size)) first n i = absurd i
 
-pub later_among : (o : Option Label) (first n : ℕ) → IfSome o (IsAmong first n) → IfSome o (IsAmong first (n + 1))
-later_among None first n i = tt
+pub later_among : (o : Option Label) (first n : ℕ) → IsSomeAnd o (IsAmong first n) → IsSomeAnd o (IsAmong first (n + 1))
+later_among None first n i = absurd i
 later_among (Some (Fetched a b)) first n i = (i.0, omega (arith, i.1))
 later_among (Some (Imported hash size)) first n i = absurd i

@@ -6,7 +6,7 @@ use Rattle.acng_site.specs.Places.{is_redirect, place_of}
 use Rattle.acng_answer.specs.declared.step.AnswerHead.{AnswerHead}
 use Rattle.acng_grow.specs.declared.facts.Facts.{Facts}
 use Rattle.acng_grow.specs.declared.why.Shown.TheVariants as shown
-use Rattle.acng_grow.specs.Causes.{shown_of, may_refuse}
+use Rattle.acng_grow.specs.Causes.{shown_of, may_refuse, named}
 use Rattle.acng_grow.specs.Effects.{Errand, Part, Old, Start, GoOn, Resume, Same, Cut}
 use Rattle.acng_grow.specs.Download.{Stand, Asking, Going, Turn, Verdict, Begins, GoesOn, Stays, Follows, Passes, since_of, is_rest}
 use Rattle.acng_grow.specs.Download.{other_status, redirect_to, led_by, ends_with, goes_to, next_origin, flows}
@@ -54,11 +54,12 @@ headed_told e n (Going url facts held kept) h location body outcome =
 -- ---- the code's decision
 
 -- it is the verdict, with what is needed of the head
-abbrev pub IsVerdict : {P Q : Type 0} → (P → ℕ) → (Q → ℕ) → Errand → AnswerHead → ℕ → Verdict → Decision P Q → Type 0
-IsVerdict number call e h followed v (decision.Begins facts) = (v ≡ Begins) × (facts ≡ facts_told h) × (h.status ≡ 200)
-IsVerdict number call e h followed v decision.GoesOn =
+abbrev pub IsVerdict : {P Q : Type 0} → (P → ℕ) → (Q → ℕ) → Errand → ℕ → AnswerHead → ℕ → Verdict → Decision P Q → Type 0
+IsVerdict number call e n h followed v (decision.Begins facts) = (v ≡ Begins) × (facts ≡ facts_told h) × (h.status ≡ 200)
+IsVerdict number call e n h followed v decision.GoesOn =
     (part : Part) × (e.part ≡ Some part) × (v ≡ GoesOn part) × (h.status ≡ 206) × (is_rest part.size part.facts.total h.range ≡ true)
-IsVerdict number call e h followed v decision.Stays = (old : Old) × (e.old ≡ Some old) × (v ≡ Stays)
-IsVerdict number call e h followed v (decision.Follows url) = (v ≡ Follows url) × (followed < e.redir_max)
-IsVerdict number call e h followed v (decision.Passes w) =
+IsVerdict number call e n h followed v decision.Stays = (old : Old) × (e.old ≡ Some old) × (v ≡ Stays) × (is_some (since_of e) ≡ true)
+IsVerdict number call e n h followed v (decision.Follows url) = (v ≡ Follows url) × (followed < e.redir_max)
+IsVerdict number call e n h followed v (decision.Passes w) =
     (v ≡ Passes (shown_of number call 0 w)) × (may_refuse (shown_of number call 0 w) ≡ true)
+    × (named (shown_of number call 0 w) ≡ Some n)

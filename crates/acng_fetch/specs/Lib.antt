@@ -3,7 +3,9 @@ pub mod Events
 pub mod Fits
 pub mod Judges
 pub mod Law
+pub mod Leads
 pub mod Loads
+pub mod LoadsBy
 pub mod Orders
 pub mod Rooms
 pub mod Stocks

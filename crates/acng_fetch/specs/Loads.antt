@@ -1,5 +1,6 @@
 -- Where a loader stands between two attempts, and what an attempt makes of its plan.
-use Rattle.std.specs.Prelude.{◌≡◌, ◌⊎◌, ◌<◌, ◌≤◌, ℕ, Bool, true, List, [], drop, unwrap_or, Option, Some, None, option_map, IfSome}
+use Rattle.std.specs.Prelude.{◌≡◌, ◌⊎◌, ◌<◌, ◌≤◌, ℕ, Bool, true, List, [], drop, unwrap_or, Option, Some, None, option_map}
+use Rattle.std.specs.Prelude.{IfSome, IsSomeAnd, is_some}
 use Rattle.std.specs.Prelude.{if◌then◌else◌, ⊤}
 use Rattle.acng_keeper.specs.declared.slip.KeepFault.{KeepFault}
 use Rattle.acng_keeper.specs.declared.slip.KeepFault.TheVariants as fault
@@ -12,7 +13,7 @@ use Rattle.acng_grow.specs.Causes.{shown_of, named, may_cut, may_refuse}
 use Rattle.acng_head.specs.declared.head.Label.{Label}
 use Rattle.acng_head.specs.declared.head.Label.TheVariants.{Fetched, Imported}
 use Rattle.acng_grow.specs.Effects.{Errand, Old, opening, runs, last_of}
-use Rattle.acng_grow.specs.Download.{Stand, Asking, Going, After, Done, On, Turn, begins, download, left_of}
+use Rattle.acng_grow.specs.Download.{Stand, Asking, Going, After, Done, On, Turn, begins, download, left_of, since_of}
 use Rattle.acng_site.specs.declared.site.Site.{Ghosts as SiteGhosts}
 use Rattle.acng_site.specs.Honest.{heard}
 use Rattle.acng_fetch.specs.declared.standing.Standing.{Standing}
@@ -36,10 +37,15 @@ abbrev pub IsAmong : ℕ → ℕ → Label → Type 0
 IsAmong first n (Fetched a b) = (first ≤ b) × (b < n)
 IsAmong first n (Imported hash size) = ⊥
 
+-- a cause that names none but such an attempt
+abbrev pub Names : ℕ → ℕ → Shown → Type 0
+Names first n cause = IfSome (named cause) (λ k. (first ≤ k) × (k < n))
+
 -- a body that runs by such attempts
 pub record RunsIn (first : ℕ) (p : Seen) (n : ℕ) : Type 0 where
   pub running : p.stage ≡ Running
-  pub among : IfSome p.label (IsAmong first n)
+  pub unshown : p.shown ≡ None
+  pub among : IsSomeAnd p.label (IsAmong first n)
 
 -- a cause with which a running body may be cut
 pub record Cuts (last : ℕ) (cause : Shown) : Type 0 where
@@ -47,19 +53,22 @@ pub record Cuts (last : ℕ) (cause : Shown) : Type 0 where
   pub order : IfSome (named cause) (λ k. last ≤ k)
 
 -- before an attempt the body hasn't opened, and no file was taken for it
-pub record OpensIn {P Q : Type 0} (number : P → ℕ) (call : Q → ℕ) (p : Seen) (full : Bool) (last : Option (Why P Q)) : Type 0 where
+pub record OpensIn {P Q : Type 0} (number : P → ℕ) (call : Q → ℕ) (first : ℕ) (p : Seen) (full : Bool) (n : ℕ)
+    (last : Option (Why P Q)) : Type 0 where
   pub seen : p ≡ opening
   pub untaken : full ≡ true
   pub refuses : IfSome last (λ w. may_refuse (shown_of number call 0 w) ≡ true)
+  pub names : IfSome last (λ w. Names first n (shown_of number call 0 w))
 
 -- or it runs
 pub record GoesIn {P Q : Type 0} (number : P → ℕ) (call : Q → ℕ) (first : ℕ) (p : Seen) (n : ℕ) (kept : Why P Q) : Type 0 where
   pub is : RunsIn first p n
   pub cause : Cuts (last_of p.label) (shown_of number call (last_of p.label) kept)
+  pub names : Names first n (shown_of number call (last_of p.label) kept)
 
 -- the next attempt has the number n
 abbrev pub StandsIn : {P Q : Type 0} → (P → ℕ) → (Q → ℕ) → ℕ → Seen → Bool → ℕ → Standing P Q → Type 0
-StandsIn number call first p full n (stand.Asking last ranged url next followed) = OpensIn number call p full last
+StandsIn number call first p full n (stand.Asking last ranged url next followed) = OpensIn number call first p full n last
 StandsIn number call first p full n (stand.Going kept) = GoesIn number call first p n kept
 
 -- an attempt was made, so that there is a cause to end with
@@ -74,6 +83,8 @@ pub record IsEnded (e : Errand) (first : ℕ) (p : Seen) (n : ℕ) : Type 0 wher
   pub ended : p.stage ≡ Running → ⊥
   pub among : (p.stage ≡ Same → ⊥) → IfSome p.label (IsAmong first n)
   pub same : p.stage ≡ Same → p.label ≡ option_map (λ (o : Old). o.label) e.old
+  pub asked : p.stage ≡ Same → is_some (since_of e) ≡ true
+  pub names : IfSome p.shown (Names first n)
 
 -- ---- what an attempt makes of it
 

@@ -1,5 +1,6 @@
 -- What a loader has beside the body: the path, what the download is for, and its attempts.
 use Rattle.std.specs.Prelude.{◌≡◌, ℕ, List, Option, IfSome}
+use Rattle.acng_desk.specs.declared.ticket.Info.{Info}
 use Rattle.acng_grow.specs.declared.facts.Seen.{Seen}
 use Rattle.acng_grow.specs.Effects.{Errand}
 
@@ -10,6 +11,8 @@ pub record Stock : Type 0 where
   pub first : ℕ
   pub next : ℕ
   pub left : ℕ
+  -- what the ticket says that it is by, where there is one
+  pub info : Option Info
 
 -- what is to be seen of the body, where one owner has it, is as the plan says
 abbrev pub Agrees : Option Seen → Seen → Type 0

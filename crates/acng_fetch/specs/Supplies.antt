@@ -1,5 +1,5 @@
 -- What a download is supplied with, as contracts see it, and what it keeps.
-use Rattle.std.specs.Prelude.{◌≡◌, ℕ, Bool, true, false, not, ◌&&◌, List, [], Option, option_map, is_some}
+use Rattle.std.specs.Prelude.{◌≡◌, ℕ, Bool, true, false, not, ◌&&◌, List, [], Option, None, option_map, is_some}
 use Rattle.std.specs.Prelude.{IfSome, IsSomeAnd}
 use Rattle.acng_head.specs.declared.head.Label.{Label}
 use Rattle.acng_head.specs.declared.head.Label.TheVariants.{Fetched}
@@ -49,7 +49,7 @@ owner handle e first supplies grown = record {
 }
 
 abbrev pub stock_of : Owner → Stock
-stock_of v = record { path = v.grown.path; errand = v.errand; first = v.first; next = v.next; left = v.left }
+stock_of v = record { path = v.grown.path; errand = v.errand; first = v.first; next = v.next; left = v.left; info = None }
 
 -- ---- the bodies
 

@@ -11,7 +11,7 @@ ghost use Rattle.acng_base.specs.Answers.{answer_limit};
 ghost use Rattle.acng_site.specs.Places.{place_of};
 ghost use Rattle.acng_grow.specs.declared.facts.Seen.{Seen};
 ghost use Rattle.acng_grow.specs.declared.why.Shown.TheVariants as shown;
-ghost use Rattle.acng_grow.specs.Causes.{shown_of, may_refuse};
+ghost use Rattle.acng_grow.specs.Causes.{shown_of, may_refuse, named};
 ghost use Rattle.acng_grow.specs.Effects.{Errand, Start, GoOn, Resume, Cut, opening, last_of};
 ghost use Rattle.acng_grow.specs.Download.{On, Asking, Going, cause_of, flows, ends, led_by};
 ghost use Rattle.acng_grow.specs.Download.{next_origin as next_origin_of, headless as headless_of};
@@ -54,6 +54,8 @@ fn next_origin<B: Grows>(
     requires full { B.full loader.old.body ≡ true }
     requires agrees { Agrees (B.seen loader.old.body) loader.old.plan }
     requires refuses { may_refuse (shown_of B.Slip.number B.File.Slip.number 0 why) ≡ true }
+    requires names { named (shown_of B.Slip.number B.File.Slip.number 0 why) ≡ Some attempt }
+    requires later { (B.stock loader.old.body).first ≤ attempt }
     requires allowed { B.Site.tells ≡ true → AllAllowed B.Site.Site (B.stock loader.old.body).path order.now loader.old.plan
         (next_origin_of (shown_of B.Slip.number B.File.Slip.number 0 why) (drop next order.now.origins) followed).effects }
     ensures turns { IfOk result (λ turned. Turns B.Slip.number B.File.Slip.number order.now
@@ -85,7 +87,8 @@ fn next_origin<B: Grows>(
 
 fn why_of<P: OriginSlip, Q: KeeperSlip>(attempt: u64, end: End<P>) -> Why<P, Q>
     requires slip { IfSlipEnd end (λ p. P.number p ≡ attempt) }
-    ensures { (last : ℕ) → shown_of P.number Q.number last result ≡ cause_of attempt (outcome_of end) }
+    ensures cause { (last : ℕ) → shown_of P.number Q.number last result ≡ cause_of attempt (outcome_of end) }
+    ensures names { (last : ℕ) → named (shown_of P.number Q.number last result) ≡ Some attempt }
 {
     match end {
         End::Whole | End::Early => Why::Early { attempt },
@@ -107,6 +110,7 @@ fn take_body<B: Grows, C: Conn<Slip = B::Slip>>(
     requires number { C.number exchange.old.conn ≡ attempt }
     requires tells { B.Site.tells ≡ true → C.tells ≡ true }
     requires running { RunsIn (B.stock loader.old.body).first loader.old.plan (attempt + 1) }
+    requires later { (B.stock loader.old.body).first ≤ attempt }
     requires agrees { Agrees (B.seen loader.old.body) loader.old.plan }
     requires room { Room loader.old.plan.facts.total (due exchange.old.reader) loader.old.plan.size exchange.old.reader.at
         exchange.old.reader.limit }
@@ -145,6 +149,7 @@ fn close<B: Grows>(
     requires slip { IfSlipEnd end (λ p. B.Slip.number p ≡ attempt) }
     requires total { IfWhole end (HasTotal loader.old.plan.facts loader.old.plan.size) }
     requires running { RunsIn (B.stock loader.old.body).first loader.old.plan (attempt + 1) }
+    requires later { (B.stock loader.old.body).first ≤ attempt }
     requires agrees { Agrees (B.seen loader.old.body) loader.old.plan }
     requires allowed { B.Site.tells ≡ true → AllAllowed B.Site.Site (B.stock loader.old.body).path order.now loader.old.plan
         (ends attempt (url_of loader.old.plan) loader.old.plan.facts loader.old.plan.size (outcome_of end)).effects }
@@ -200,6 +205,7 @@ pub(crate) fn headless<B: Grows>(
     requires slip { IfSlipEnd end (λ p. B.Slip.number p ≡ attempt) }
     requires stands { StandsIn B.Slip.number B.File.Slip.number (B.stock loader.old.body).first loader.old.plan
         (B.full loader.old.body) attempt standing }
+    requires later { (B.stock loader.old.body).first ≤ attempt }
     requires agrees { Agrees (B.seen loader.old.body) loader.old.plan }
     requires allowed { B.Site.tells ≡ true → AllAllowed B.Site.Site (B.stock loader.old.body).path order.now loader.old.plan
         (headless_of attempt (stand_of B.Slip.number B.File.Slip.number order.now loader.old.plan standing) (outcome_of end)).effects }
@@ -256,6 +262,7 @@ fn flow<B: Grows, C: Conn<Slip = B::Slip>>(
     requires number { C.number exchange.old.conn ≡ attempt }
     requires tells { B.Site.tells ≡ true → C.tells ≡ true }
     requires running { RunsIn (B.stock loader.old.body).first loader.old.plan (attempt + 1) }
+    requires later { (B.stock loader.old.body).first ≤ attempt }
     requires agrees { Agrees (B.seen loader.old.body) loader.old.plan }
     requires room { Room loader.old.plan.facts.total (due exchange.old.reader) loader.old.plan.size exchange.old.reader.at
         exchange.old.reader.limit }
@@ -401,8 +408,8 @@ fn redirected<P: OriginSlip, Q: KeeperSlip>(
     requires { followed < 2 ^ 32 - 1 }
     ensures follows { (e : Errand) (p : Seen) → follows P.number Q.number e p result
         ≡ On (Asking (Some (shown.Redirects attempt)) (if ranged then e.part else None) url (drop next e.origins) (followed + 1)) }
-    ensures stands { (e : Errand) (first n : ℕ) (p : Seen) (full : Bool) → p ≡ opening → full ≡ true
-        → AfterIn P.number Q.number e first p full n result }
+    ensures stands { (e : Errand) (first n : ℕ) (p : Seen) (full : Bool) → first ≤ attempt → attempt < n → p ≡ opening
+        → full ≡ true → AfterIn P.number Q.number e first p full n result }
 {
     Turned::Again(Standing::Asking {
         last: Some(Why::Redirects { attempt }),
@@ -442,7 +449,7 @@ fn open_by<B: Grows, C: Conn<Slip = B::Slip>>(
     requires later { (B.stock loader.old.body).first ≤ attempt }
     requires errand { (B.stock loader.old.body).errand ≡ order.now }
     requires keeps { ErrandKeeps B.Site.Site (B.stock loader.old.body).path attempt order.now }
-    requires decides { IsVerdict B.Slip.number B.File.Slip.number order.now head.now followed
+    requires decides { IsVerdict B.Slip.number B.File.Slip.number order.now attempt head.now followed
         (verdict_told order.now attempt (if ranged then order.now.part else None) url followed head.now
         (place_of url exchange.old.reader.location)) decision }
     requires allowed { B.Site.tells ≡ true → AllAllowed B.Site.Site (B.stock loader.old.body).path order.now loader.old.plan

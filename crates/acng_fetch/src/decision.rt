@@ -82,7 +82,8 @@ pub(crate) fn tag_again(tag: &Option<Tag>) -> Option<Tag>
 }
 
 fn other<P: OriginSlip, Q: KeeperSlip>(attempt: u64, head: &AnswerHead) -> Decision<P, Q>
-    ensures { (e : Errand) (followed : ℕ) → IsVerdict P.number Q.number e head.now followed (other_status attempt head.now.status) result }
+    ensures { (e : Errand) (followed : ℕ) → IsVerdict P.number Q.number e attempt head.now followed
+        (other_status attempt head.now.status) result }
 {
     let status = head.status;
     if is_gone(status) {
@@ -99,7 +100,7 @@ fn redirect<P: OriginSlip, Q: KeeperSlip>(
     followed: u32,
     place: Place,
 ) -> Decision<P, Q>
-    ensures { IsVerdict P.number Q.number order.now head.now followed
+    ensures { IsVerdict P.number Q.number order.now attempt head.now followed
         (redirect_to attempt order.now head.now.status followed place) result }
 {
     let status = head.status;
@@ -124,7 +125,8 @@ fn plain<P: OriginSlip, Q: KeeperSlip>(
     followed: u32,
     place: Place,
 ) -> Decision<P, Q>
-    ensures { IsVerdict P.number Q.number order.now head.now followed (plain_told order.now attempt followed head.now place) result }
+    ensures { IsVerdict P.number Q.number order.now attempt head.now followed
+        (plain_told order.now attempt followed head.now place) result }
 {
     if head.status == 200 {
         Decision::Begins(facts_in(head))
@@ -160,7 +162,7 @@ fn decide_ranged<P: OriginSlip, Q: KeeperSlip>(
     place: Place,
 ) -> Decision<P, Q>
     requires part { order.now.part ≡ Some part.now }
-    ensures { IsVerdict P.number Q.number order.now head.now followed
+    ensures { IsVerdict P.number Q.number order.now attempt head.now followed
         (verdict_told order.now attempt (Some part.now) url.now followed head.now place) result }
 {
     if is_own(part, url, head) {
@@ -178,7 +180,7 @@ fn decide_whole<P: OriginSlip, Q: KeeperSlip>(
     head: &AnswerHead,
     place: Place,
 ) -> Decision<P, Q>
-    ensures { IsVerdict P.number Q.number order.now head.now followed
+    ensures { IsVerdict P.number Q.number order.now attempt head.now followed
         (verdict_told order.now attempt None url.now followed head.now place) result }
 {
     let _ = url;
@@ -199,7 +201,7 @@ pub(crate) fn decide<P: OriginSlip, Q: KeeperSlip>(
     head: &AnswerHead,
     place: Place,
 ) -> Decision<P, Q>
-    ensures { IsVerdict P.number Q.number order.now head.now followed
+    ensures { IsVerdict P.number Q.number order.now attempt head.now followed
         (verdict_told order.now attempt (if ranged then order.now.part else None) url.now followed head.now place) result }
 {
     if ranged {

@@ -25,11 +25,13 @@ mod decision;
 mod exchange;
 mod grows;
 mod law;
+mod lead;
 mod load;
 mod loader;
 mod order;
 mod owned;
 mod standing;
+mod ticketed;
 
 pub use exchange::{End, Event, Exchange, Pending};
 pub use grows::Grows;
@@ -39,3 +41,4 @@ pub use loader::Loader;
 pub use order::{OldOrder, Order, PartOrder};
 pub use owned::{Owned, Supplies};
 pub use standing::{Standing, Turned};
+pub use ticketed::{Loaded, load_owned};

@@ -251,6 +251,7 @@ fn attempt_once<B: Grows, O: Origin<B::Site, Slip = B::Slip>>(
     }) }
     ensures path { (B.stock loader.new.body).path ≡ (B.stock loader.old.body).path }
     ensures first { (B.stock loader.new.body).first ≡ (B.stock loader.old.body).first }
+    ensures info { (B.stock loader.new.body).info ≡ (B.stock loader.old.body).info }
 {
     let ask = ask_for(alloc, order, loader, &standing)?;
     let intake = new_intake(alloc)?;
@@ -317,6 +318,7 @@ fn try_on<B: Grows, O: Origin<B::Site, Slip = B::Slip>>(
     ensures agrees { Agrees (B.seen loader.new.body) loader.new.plan }
     ensures path { (B.stock loader.new.body).path ≡ (B.stock loader.old.body).path }
     ensures first { (B.stock loader.new.body).first ≡ (B.stock loader.old.body).first }
+    ensures info { (B.stock loader.new.body).info ≡ (B.stock loader.old.body).info }
 {
     let mut standing = standing;
     loop {
@@ -412,6 +414,7 @@ pub fn download<B: Grows, O: Origin<B::Site, Slip = B::Slip>>(
     ensures agrees { Agrees (B.seen loader.new.body) loader.new.plan }
     ensures path { (B.stock loader.new.body).path ≡ (B.stock loader.old.body).path }
     ensures first { (B.stock loader.new.body).first ≡ (B.stock loader.old.body).first }
+    ensures info { (B.stock loader.new.body).info ≡ (B.stock loader.old.body).info }
 {
     let standing = match first_standing(alloc, order) {
         Ok(standing) => standing,

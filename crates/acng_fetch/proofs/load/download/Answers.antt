@@ -1,4 +1,4 @@
-use Rattle.std.proofs.Common.{◌+◌, sym, subst}
+use Rattle.std.proofs.Common.{◌+◌, inl, sym, subst}
 use Rattle.acng_fetch.specs.Loads.{FaultsIn, IsEnded}
 use Rattle.acng_fetch.proofs.load.download.Goals as goal
 
@@ -23,3 +23,8 @@ returns-in-Err-try_on-clause-ended g c =
     let faults = subst (λ f. FaultsIn f plan n c.in-Err-try_on.fault) (sym c.try_on.ensures.first) c.in-Err-try_on.ensures.fault in
     subst (λ f. IsEnded c.args.order.now f c.close_by-in-Err-try_on.new.loader.plan n) c.try_on.ensures.first
     (c.close_by-in-Err-try_on.ensures.ended n faults)
+
+pub returns-in-Err-clause-ended : goal.returns-in-Err-clause-ended
+returns-in-Err-clause-ended g c =
+    let stock = g.B.Grows.stock c.args.loader.now.body in
+    c.close_by.ensures.ended (stock.next + stock.left) (inl c.requires.opening)

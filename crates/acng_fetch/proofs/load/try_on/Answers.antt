@@ -74,6 +74,7 @@ loop-alloc-preserved g c =
       errand = ap (λ k. k.errand) made.stock ∙ i.errand;
       path = made.path ∙ i.path;
       first = ap (λ k. k.first) made.stock ∙ i.first;
+      info = ap (λ k. k.info) made.stock ∙ i.info;
       later = omega (arith, i.later, next);
       sum = omega (arith, i.sum, next, left, some);
       agrees = c.attempt_once.ensures.agrees;

@@ -22,6 +22,7 @@ invariant-loop-alloc g l =
       errand : now.errand ≡ e;
       path : now.path ≡ before.path;
       first : now.first ≡ before.first;
+      info : now.info ≡ before.info;
       later : before.next ≤ now.next;
       sum : now.next + now.left ≡ before.next + before.left;
       agrees : Agrees (g.B.Grows.seen l.loader.body) p;

@@ -1,0 +1,35 @@
+-- A ticket and the body that is loaded by it.
+use Rattle.std.specs.Prelude.{◌≡◌, ◌≢◌, ◌+◌, ◌-◌, ℕ, Bool, true, false, not, ◌&&◌, Option, None, Some, is_some, IfSome}
+use Rattle.acng_grow.specs.declared.facts.Stage.TheVariants as stage
+use Rattle.acng_grow.specs.Grown.{Grown, number_of}
+use Rattle.acng_desk.specs.Tickets.{Ticketed, errand_of}
+use Rattle.acng_desk.specs.Settles.{IsOwn, part_id, was_id}
+use Rattle.acng_fetch.specs.Stocks.{Stock}
+use Rattle.acng_fetch.specs.Supplies.{same_some}
+
+pub record Lead : Type 0 where
+  pub ticket : Ticketed
+  pub grown : Grown
+
+abbrev pub stock_of : Lead → Stock
+stock_of l = record {
+  path = l.grown.path;
+  errand = errand_of l.ticket.info;
+  first = l.ticket.info.first;
+  next = l.ticket.info.first + 16 - l.ticket.left;
+  left = l.ticket.left;
+  info = Some l.ticket.info;
+}
+
+-- no file was taken from the ticket
+abbrev pub is_full : Ticketed → Bool
+is_full t = is_some t.fresh && same_some (is_some t.info.was) (is_some t.old_body) && same_some (is_some t.info.part) (is_some t.part_body)
+
+-- the body is for the ticket's path, its file is one of the ticket's, and each file that was taken is it
+pub record IsLed (l : Lead) : Type 0 where
+  pub path : l.grown.path ≡ l.ticket.info.path
+  pub file : l.grown.seen.stage ≢ stage.Same → IfSome (number_of l.grown) (IsOwn l.ticket.info)
+  pub file_same : l.grown.seen.stage ≡ stage.Same → number_of l.grown ≡ was_id l.ticket.info
+  pub taken_new : l.ticket.fresh ≡ None → number_of l.grown ≡ Some l.ticket.info.fresh
+  pub taken_part : l.ticket.part_body ≡ None → IfSome (part_id l.ticket.info) (λ id. number_of l.grown ≡ Some id)
+  pub taken_old : l.ticket.old_body ≡ None → IfSome (was_id l.ticket.info) (λ id. number_of l.grown ≡ Some id)
