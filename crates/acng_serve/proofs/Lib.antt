@@ -1,0 +1,8 @@
+pub mod Answerings
+pub mod Exact
+pub mod FileNotes
+pub mod Filing
+pub mod Frees
+pub mod Headlines
+mod Rows
+pub mod Sendings

@@ -1,0 +1,9 @@
+pub mod Answered
+pub mod Answers
+pub mod Causes
+pub mod Files
+pub mod Headline
+pub mod Houses
+pub mod Lawful
+pub mod Notes
+pub mod Ways

@@ -1,0 +1,45 @@
+-- Where a request leads: to a file with its class, or why nowhere.
+use Rattle.std.specs.Prelude.{◌≡◌, ◌≢◌, ◌⊎◌, ◌≤◌, ℕ, List, length, Option, Some, None, Ok, Err}
+use Rattle.acng_conf.specs.Settings.{Settings}
+use Rattle.acng_remap.specs.Readings.{Reading, reading}
+use Rattle.acng_remap.specs.declared.target.Target.TheVariants.{File, Page}
+use Rattle.acng_class.specs.declared.class.Class.{Class}
+use Rattle.acng_class.specs.declared.class.Class.TheVariants.{Solid, Volatile, Forbidden}
+use Rattle.acng_class.specs.Classes.{class_of}
+use Rattle.acng_request.specs.declared.got.Request.{Request}
+use Rattle.acng_serve.specs.declared.note.Cause.{Cause}
+use Rattle.acng_serve.specs.declared.note.Cause.TheVariants as cause
+use Rattle.acng_serve.specs.declared.way.Way.{Way}
+use Rattle.acng_serve.specs.declared.way.Way.TheVariants as way
+use Rattle.acng_serve.specs.Causes.{target_cause}
+
+-- a file that isn't passed on
+abbrev pub class_refusal : {Q : Type 0} → Class → Option (Cause Q)
+class_refusal Solid = None
+class_refusal Volatile = None
+class_refusal Forbidden = Some cause.Forbidden
+
+-- why a reading leads to no file. Until there is a page, a target that names it is refused.
+abbrev pub refusal_of : {Q : Type 0} → Settings → Reading → Option (Cause Q)
+refusal_of s (Err fault) = Some (target_cause fault)
+refusal_of s (Ok (Page query)) = Some cause.BadTarget
+refusal_of s (Ok (File path origins)) = class_refusal (class_of s.pfile_pattern s.vfile_pattern path)
+
+-- a file with its class, which isn't Forbidden
+pub record LeadsToFile (s : Settings) (r : Request) (path : List ℕ) (origins : List (List ℕ)) (class : Class) : Type 0 where
+  pub read : reading s r.method r.target ≡ Ok (File path origins)
+  pub some : 1 ≤ length origins
+  pub class_is : class ≡ class_of s.pfile_pattern s.vfile_pattern path
+  pub passed : class ≢ Forbidden
+
+-- the way of the request's target; want of memory is free
+abbrev pub LeadsTo : {Q : Type 0} → Settings → Request → Way Q → Type 0
+LeadsTo s r (way.File path origins class) = LeadsToFile s r path origins class
+LeadsTo s r (way.Refusal c) = (c ≡ cause.NoMemory) ⊎ (refusal_of s (reading s r.method r.target) ≡ Some c)
+
+-- the same of a file that was read
+abbrev pub LeadsByClass : {Q : Type 0} → Option (List ℕ) → Option (List ℕ) → List ℕ → List (List ℕ) → Way Q → Type 0
+LeadsByClass solid volatile path origins (way.File p o class) =
+    (p ≡ path) × (o ≡ origins) × (class ≡ class_of solid volatile path) × (class ≢ Forbidden)
+LeadsByClass solid volatile path origins (way.Refusal c) =
+    (c ≡ cause.NoMemory) ⊎ (class_refusal (class_of solid volatile path) ≡ Some c)
