@@ -26,6 +26,9 @@ abbrev pub colon : ℕ
 colon = 58
 
 -- a space or a tab
+abbrev pub is_colon : ℕ → Bool
+is_colon b = b == colon
+
 abbrev pub is_blank : ℕ → Bool
 is_blank b = b == space || b == tab
 

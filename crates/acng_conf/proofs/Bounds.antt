@@ -7,7 +7,7 @@ use Rattle.std.proofs.lemmas.Grind.{common_steps}
 use Rattle.std.proofs.lemmas.List.Sums.{prefix_len-le-length}
 use Rattle.std.proofs.lemmas.List.Elements.{All-nil, All-head, All-tail, All-set, All-push}
 use Rattle.acng_conf.specs.Bounds.{AreRising, HasFewTargets, IsBounded}
-use Rattle.acng_base.specs.Cuts.{trim, without_cr, pieces, words}
+use Rattle.acng_base.specs.Cuts.{is_colon, trim, without_cr, pieces, words}
 use Rattle.acng_base.specs.Numbers.{are_digits}
 use Rattle.acng_conf.specs.Lines.{without_comment, is_skipped}
 use Rattle.acng_conf.specs.Globs.{fits}
@@ -16,7 +16,7 @@ use Rattle.acng_conf.specs.Numbers.{if_within}
 use Rattle.acng_conf.specs.Places.{url_entry, entry_of}
 use Rattle.acng_conf.specs.Remaps.{RemapLine, Listing, empty_line, warned, with_target, taken, after_entry, after_list_line, after_list_lines, after_fitting, after_files, ends_with_gz, is_listed, after_pattern, is_file_word, after_word, after_words, first_section, after_section, after_flags, line_of}
 use Rattle.acng_conf.specs.Settings.{Mirrors, Settings, defaults}
-use Rattle.acng_conf.specs.Readings.{Step, and_then, with_warning, with_warnings, setting_number, with_number, set_bind, is_pattern, new_group, group_at, with_group, named_at, with_place, with_targets, change, naming, owner, merge_owned, merge, merge_all, within_limits, after_merging, add_brought, held_at, add_remap, with_setting, after_value, after_colon, is_colon, after_line, at_line, after_lines, lacks_target, first_later, put_warning, with_no_targets, finished, reading}
+use Rattle.acng_conf.specs.Readings.{Step, and_then, with_warning, with_warnings, setting_number, with_number, set_bind, is_pattern, new_group, group_at, with_group, named_at, with_place, with_targets, change, naming, owner, merge_owned, merge, merge_all, within_limits, after_merging, add_brought, held_at, add_remap, with_setting, after_value, after_colon, after_line, at_line, after_lines, lacks_target, first_later, put_warning, with_no_targets, finished, reading}
 use Rattle.acng_conf.specs.declared.fault.ConfCause.{ConfCause}
 use Rattle.acng_conf.specs.declared.fault.ConfCause.TheVariants.{TooLong, TooMany}
 use Rattle.acng_conf.specs.declared.fault.ConfFault.{ConfFault}

@@ -5,7 +5,7 @@ use Rattle.std.specs.Option.{option_map_or}
 use Rattle.std.specs.Str.{is_utf8}
 use Rattle.regex_syntax.specs.Grammar.{read}
 use Rattle.regex.specs.Patterns.{default_config}
-use Rattle.acng_base.specs.Cuts.{slash, colon, trim, without_cr, pieces, words}
+use Rattle.acng_base.specs.Cuts.{slash, is_colon, trim, without_cr, pieces, words}
 use Rattle.acng_conf.specs.Lines.{first_is, without_comment, is_skipped}
 use Rattle.acng_conf.specs.Keys.{is_key, is_page, is_group_name, key_of, group_name}
 use Rattle.acng_conf.specs.Numbers.{number_within}
@@ -194,9 +194,6 @@ after_key lists n s key value = cond (is_key key) (after_value lists n s key val
 abbrev pub after_colon : List ListFile → ℕ → Settings → List ℕ → Option ℕ → Step
 after_colon lists n s text None = Err NotALine
 after_colon lists n s text (Some k) = after_key lists n s (take k text) (trim (drop (k + 1) text))
-
-abbrev pub is_colon : ℕ → Bool
-is_colon b = b == colon
 
 abbrev pub after_text : List ListFile → ℕ → Settings → List ℕ → Step
 after_text lists n s text = after_colon lists n s text (position is_colon text)

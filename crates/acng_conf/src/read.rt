@@ -1,8 +1,8 @@
 //! The reading of a text, line by line, up to its end or its first refusal.
 ghost use Rattle.std.specs.Prelude.{◌≡◌, ◌≢◌, IfOk, OnOk, IfErr, Ok, Err, length, nat_lt, take, position, cond, ◌≤◌, ◌<◌, ◌+◌, drop, IfSome};
 ghost use Rattle.acng_conf.specs.Bounds.{IsBounded};
-ghost use Rattle.acng_base.specs.Cuts.{pieces, trim};
-ghost use Rattle.acng_conf.specs.Readings.{reading, is_colon, Gives, GivesAt, after_lines, at_line, after_line, after_text, after_key, after_value, with_setting, with_warning};
+ghost use Rattle.acng_base.specs.Cuts.{is_colon, pieces, trim};
+ghost use Rattle.acng_conf.specs.Readings.{reading, Gives, GivesAt, after_lines, at_line, after_line, after_text, after_key, after_value, with_setting, with_warning};
 ghost use Rattle.acng_conf.specs.Keys.{key_of};
 ghost use Rattle.acng_conf.specs.Settings.{most_text};
 

@@ -2,12 +2,9 @@
 use Rattle.std.specs.Prelude.{ℕ, ◌+◌, Bool, ◌&&◌, ◌==◌, nat_le, nat_lt, List, [], ◌∷◌, ◌++◌, cond, length, take, drop, decimal, Option, Some, None, position, unwrap_or}
 use Rattle.std.specs.List.{list_all}
 use Rattle.std.specs.Str.{str_to_ascii_lowercase}
-use Rattle.acng_base.specs.Cuts.{colon}
+use Rattle.acng_base.specs.Cuts.{colon, is_colon}
 use Rattle.acng_conf.specs.Keys.{is_word_byte}
 use Rattle.acng_conf.specs.Numbers.{number_within}
-
-abbrev pub is_colon : ℕ → Bool
-is_colon b = b == colon
 
 -- where the name ends
 abbrev pub name_len : List ℕ → ℕ

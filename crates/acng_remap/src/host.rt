@@ -1,8 +1,8 @@
 //! Hosts of targets: a name and perhaps a port.
 ghost use Rattle.std.specs.Prelude.{◌≡◌, ◌≤◌, ◌<◌, ◌++◌, ◌∷◌, OnOk, IfSome, length, position, decimal};
 ghost use Rattle.std.specs.Str.{str_to_ascii_lowercase};
-ghost use Rattle.acng_base.specs.Cuts.{colon};
-ghost use Rattle.acng_remap.specs.Hosts.{is_colon, name_len, is_name, port_of, port_after, host_port, host_name, host_text};
+ghost use Rattle.acng_base.specs.Cuts.{colon, is_colon};
+ghost use Rattle.acng_remap.specs.Hosts.{name_len, is_name, port_of, port_after, host_port, host_name, host_text};
 
 use acng_base::{NoMemory, find_byte};
 use acng_conf::{are_word_bytes, read_number};

@@ -2,7 +2,7 @@
 use Rattle.std.specs.Prelude.{bytes_eq, slice_index_or, ℕ, ◌+◌, Bool, false, ◌&&◌, not, List, [], ◌∷◌, ◌++◌, length, take, drop, nat_le, nat_lt, Option, Some, None, option_map, ◌==◌, cond}
 use Rattle.std.specs.Str.{str_to_ascii_lowercase}
 use Rattle.std.specs.List.{list_all, position}
-use Rattle.acng_base.specs.Cuts.{is_blank, is_blank_or_cr, is_empty, drop_front, drop_end, pieces, line_feed, colon}
+use Rattle.acng_base.specs.Cuts.{is_blank, is_blank_or_cr, is_empty, drop_front, drop_end, pieces, line_feed, is_colon}
 use Rattle.acng_stanza.specs.declared.fault.StanzaFault.{StanzaFault}
 use Rattle.acng_stanza.specs.declared.fault.StanzaFault.TheVariants.{BadLine, LineTooLong, TooLarge}
 
@@ -22,9 +22,6 @@ pub record Reading : Type 0 where
 -- without blanks and carriage returns at the end
 abbrev pub trimmed : List ℕ → List ℕ
 trimmed line = drop_end is_blank_or_cr line
-
-abbrev pub is_colon : ℕ → Bool
-is_colon b = b == colon
 
 abbrev pub is_name_byte : ℕ → Bool
 is_name_byte b = nat_le 0x21 b && nat_le b 0x7E && not (is_colon b)
