@@ -1,5 +1,6 @@
 //! The stanza that isn't over.
 ghost use Rattle.std.specs.Prelude.{◌≡◌, ◌==◌, ◌+◌, [], OnOk, IfErr, position, length};
+ghost use Rattle.acng_base.specs.Cuts.{is_colon};
 ghost use Rattle.acng_stanza.specs.Stanzas.{step, text_step, with_line, go_on, new_field, begins_blank};
 ghost use Rattle.acng_stanza.specs.Readers.{Unfinished};
 ghost use Rattle.acng_stanza.specs.Steps.{Steps, Adds};
