@@ -18,12 +18,13 @@ use Rattle.acng_rows.specs.declared.stamp.Stamp.TheVariants.{Checked, Mark}
 use Rattle.acng_rows.specs.Rows.{Rows, Row, whole_at, out_at, StampFits, head_of, whole_of, with_whole, stamped, stamped_in, restamped}
 use Rattle.acng_rows.specs.Rows.{id_in_whole}
 use Rattle.acng_rows.specs.Goods.{IsGood, IsRow, StandsFor, HeldAs, Holds, AreHeld, IsUnnamed, IsNamed, IsAll, Core, core_of}
-use Rattle.acng_rows.specs.Goods.{WasGood, GoodsCome, none_comes, whole_comes, HasBody, HasGood, IsExact, IsBetween, AreSealed}
+use Rattle.acng_rows.specs.Goods.{WasGood, GoodsCome, HasHead, HeadsCome, none_comes, whole_comes, HasBody, HasGood, IsExact, IsBetween}
+use Rattle.acng_rows.specs.Goods.{AreSealed}
 use Rattle.acng_rows.specs.Removals.{effect_of, effects_of, id_in, both_of, AreUnnamed}
-use Rattle.acng_rows.proofs.Ids.{put_off, put_own, less_own, some_is, split}
+use Rattle.acng_rows.proofs.Ids.{put_off, put_own, less_off, less_own, some_is, split}
 use Rattle.acng_rows.proofs.Points.{tie, tied, untied}
 use Rattle.acng_rows.proofs.Wholes.{at_put, own_whole, off_whole, whole-insert}
-use Rattle.acng_rows.proofs.Removals.{good_less, good_off}
+use Rattle.acng_rows.proofs.Removals.{good_less, good_off, had_head, hold_off}
 
 -- ---- exactly the rows
 
@@ -76,11 +77,31 @@ all_exact rows k a all = record {
         let whole : n.whole ≡ whole_of id h = ap (whole_of n.whole.id) same ∙ ap (λ i. whole_of i h) n.is in
         ap (whole_at rows) (sym (ap (λ (x : Head). x.path) same)) ∙ n.at ∙ ap Some whole
 
+-- ---- one set of rows alone is found
+
+one_row : (s : Stored) (path : List ℕ) (o p : Option Whole) → IsRow s path o → IsRow s path p → o ≡ p
+one_row s path None None a b = refl
+one_row s path None (Some x) a b = absurd (a x.id (head_of path x) b.text b.good refl)
+one_row s path (Some w) None a b = absurd (b w.id (head_of path w) a.text a.good refl)
+one_row s path (Some w) (Some x) a b =
+    let less : x.id ≤ w.id = a.most x.id (head_of path x) b.text b.good refl in
+    let more : w.id ≤ x.id = b.most w.id (head_of path w) a.text a.good refl in
+    let id : w.id ≡ x.id = omega (arith, less, more) in
+    let text : record_text (head_of path w) ≡ record_text (head_of path x) =
+    some_is (record_text (head_of path w)) (record_text (head_of path x)) (sym a.good.head ∙ ap (map.get s.heads) id ∙ b.good.head) in
+    let head : head_of path w ≡ head_of path x = record_same (head_of path w) (head_of path x) a.good.reads b.good.reads text in
+    ap Some (ap (whole_of w.id) head ∙ ap (λ i. whole_of i (head_of path x)) id)
+
+pub one_house : (rows other : Rows) (s : Stored) → StandsFor rows s → StandsFor other s → (q : List ℕ) → whole_at rows q ≡ whole_at other q
+one_house rows other s a b q = one_row s q (whole_at rows q) (whole_at other q) (a.each q) (b.each q)
+
 -- ---- nothing came yet
 
 pub between_self : (come : Core → List ℕ → Type 0) (rows new : Rows) (s : Stored) → IsBetween come rows new s s
 between_self come rows new s = record {
   goods = record { each = λ id h t g. inl (record { was = h; good = g; alike = refl }) };
+  heads = λ a. record { each = λ id h. inl h };
+  holds = λ a. inl a;
   stands = λ a. inl (exact_stands rows s a);
 }
 
@@ -88,6 +109,26 @@ between_self come rows new s = record {
 pub goods_less : (come : Core → List ℕ → Type 0) (r : Removal) (s t : Stored) → GoodsCome come s t
     → GoodsCome come s (changed_by (effect_of r) t)
 goods_less come r s t a = record { each = λ id h x g. a.each id h x (good_less r t id h x g) }
+
+body_less : (r : Removal) (t : Stored) (id : ℕ) → id ≢ id_in r → map.contains_key t.bodies id ≡ true
+    → map.contains_key (changed_by (effect_of r) t).bodies id ≡ true
+body_less (removal.Head q) t id not there = there
+body_less (removal.Body q) t id not there = ap is_some (less_off t.bodies q id not) ∙ there
+
+-- a removal of what the new rows don't name brings no head
+pub heads_less : (new : Rows) (r : Removal) (s t : Stored) → IsUnnamed new (id_in r) → HeadsCome new s t
+    → HeadsCome new s (changed_by (effect_of r) t)
+heads_less new r s t none a = record {
+  each = λ id h. by id (a.each id (record { head = h.head; at = had_head r t id (record_text h.head) h.at; reads = h.reads }));
+}
+  where
+    off : (id : ℕ) → IsNamed new id → id ≢ id_in r
+    off id n e = none.each n.path n.whole n.at (n.is ∙ e)
+
+    by : (id : ℕ) → HasHead s id ⊎ (IsNamed new id × (map.contains_key t.bodies id ≡ true))
+        → HasHead s id ⊎ (IsNamed new id × (map.contains_key (changed_by (effect_of r) t).bodies id ≡ true))
+    by id (inl h) = inl h
+    by id (inr n) = inr (n.0, body_less r t id (off id n.0) n.1)
 
 -- ---- a head is put
 
@@ -106,6 +147,10 @@ module _ (s : Stored) (id : ℕ) (hd : Head) (reads : IsHead hd) where
   put_stays : (q : ℕ) (k : Head) (t : List ℕ) → q ≢ id → IsGood s q k t → IsGood put q k t
   put_stays q k t not g =
       record { head = put_off s.heads id (record_text hd) q not ∙ g.head; reads = g.reads; body = g.body; size = g.size }
+
+  -- each other id with a head had it
+  put_had : (q : ℕ) → q ≢ id → HasHead put q → HasHead s q
+  put_had q not h = record { head = h.head; at = sym (put_off s.heads id (record_text hd) q not) ∙ h.at; reads = h.reads }
 
   put_good : (t : List ℕ) → map.get s.bodies id ≡ Some t → length t ≡ hd.size → IsGood put id hd t
   put_good t body size = record { head = put_own s.heads id (record_text hd); reads = reads; body = body; size = size }
@@ -152,6 +197,13 @@ module _ (rows : Rows) (s : Stored) (path : List ℕ) (w : Whole) (at : whole_at
 
     pub put_holds : Holds rows with_put
     put_holds = record { each = put_held }
+
+    put_heads : (new : Rows) → HeadsCome new s with_put
+    put_heads new = record {
+      each = λ q h. split q w.id
+          (λ e. inl (subst (HasHead s) (sym e) (record { head = was.head; at = was.good.head; reads = was.good.reads })))
+          (λ not. inl (put_had s w.id hd reads q not h));
+    }
 
     put_goods : GoodsCome none_comes s with_put
     put_goods = record {
@@ -305,6 +357,8 @@ module _ (tells : Bool) (next : ℕ) (rows : Rows) (k : Kept) (path : List ℕ) 
   between_put : tells ≡ true → IsBetween none_comes rows done (stored k) (changed_by (HeadPut w.id (record_text hd)) (stored k))
   between_put told = record {
     goods = put_goods rows (stored k) path w at hd (stamped_core path w stamp) hd_reads a.apart (a.holds told);
+    heads = λ h. put_heads rows (stored k) path w at hd (stamped_core path w stamp) hd_reads a.apart h done;
+    holds = λ h. inl (put_holds rows (stored k) path w at hd (stamped_core path w stamp) hd_reads a.apart h);
     stands = λ e. inr (exact_stands done (changed_by (HeadPut w.id (record_text hd)) (stored k)) (exact_put e));
   }
 
@@ -459,9 +513,9 @@ module _ (tells : Bool) (next : ℕ) (rows : Rows) (k : Kept) (path : List ℕ) 
   with_head = changed_by (HeadPut w.id (record_text head)) (stored k)
 
   -- the old rows while the head comes
-  old_holds : tells ≡ true → Holds rows with_head
-  old_holds told = record {
-    each = λ p x is. let g = (a.holds told).each p x is in
+  old_stay : Holds rows (stored k) → Holds rows with_head
+  old_stay was = record {
+    each = λ p x is. let g = was.each p x is in
         record {
           head = g.head;
           text = g.text;
@@ -470,6 +524,9 @@ module _ (tells : Bool) (next : ℕ) (rows : Rows) (k : Kept) (path : List ℕ) 
           alike = g.alike;
         };
   }
+
+  old_holds : tells ≡ true → Holds rows with_head
+  old_holds told = old_stay (a.holds told)
 
   pub hold_refused : (mid : Kept) (later : ℕ) → later ≡ next → (tells ≡ true → MayCome (HeadPut w.id (record_text head)) k mid)
       → AreHeld tells later rows mid
@@ -544,6 +601,22 @@ module _ (tells : Bool) (next : ℕ) (rows : Rows) (k : Kept) (path : List ℕ) 
         here q h t g e = let g' : IsGood with_head w.id h t = subst (λ n. IsGood with_head n h t) e g in
             (sym (ap core_of (put_same (stored k) w.id head reads h t g')), g'.body)
 
+    head_comes : HeadsCome held (stored k) with_head
+    head_comes = record {
+      each = λ q h. split q w.id
+          (λ e. inr (
+            record { path = path; whole = w; at = own_whole rows path its_row; is = sym e },
+            ap (map.contains_key k.bodies) e ∙ ap is_some b.body,
+          ))
+          (λ not. inl (put_had (stored k) w.id head reads q not h));
+    }
+
+    new_stay : Holds rows (stored k) → Holds held with_head
+    new_stay was = record {
+      each = λ p x is. by_row {P = HeldAs with_head} p x is (record { head = head; text = b.text; good = own_good b; alike = refl })
+          (λ q z not had. (old_stay was).each q z had);
+    }
+
     two : IsExact rows (stored k) → HasTwo rows path w its_row refl with_head
     two e = record {
       each = λ p x is. let g = e.each p x is in record {
@@ -559,7 +632,12 @@ module _ (tells : Bool) (next : ℕ) (rows : Rows) (k : Kept) (path : List ℕ) 
 
     -- the head has come
     between_two : IsBetween come rows held (stored k) with_head
-    between_two = record { goods = put_come; stands = λ e. two_stand rows path w its_row refl with_head (two e) (whole_at rows path) refl }
+    between_two = record {
+      goods = put_come;
+      heads = λ was. head_comes;
+      holds = λ was. inr (new_stay was);
+      stands = λ e. two_stand rows path w its_row refl with_head (two e) (whole_at rows path) refl;
+    }
 
     exact_none : whole_at rows path ≡ None → IsExact rows (stored k) → IsExact held with_head
     exact_none at e = let t = two e in one_left rows path w its_row refl with_head t.own (λ p x not is. t.each p x is)
@@ -618,12 +696,18 @@ module _ (tells : Bool) (next : ℕ) (rows : Rows) (k : Kept) (path : List ℕ) 
         (
           record {
             goods = goods_less come (removal.Head o.id) (stored k) with_head put_come;
+            heads = λ was. heads_less held (removal.Head o.id) (stored k) with_head old_free head_comes;
+            holds = λ was. inr (hold_off held (removal.Head o.id) with_head old_free (new_stay was));
             stands = λ e. inr
                 (exact_stands held head_gone (exact_gone e));
           },
           record {
             goods = goods_less come (removal.Body o.id) (stored k) head_gone (goods_less come (removal.Head o.id)
                 (stored k) with_head put_come);
+            heads = λ was. heads_less held (removal.Body o.id) (stored k) head_gone old_free
+                (heads_less held (removal.Head o.id) (stored k) with_head old_free head_comes);
+            holds = λ was. inr (hold_off held (removal.Body o.id) head_gone old_free
+                (hold_off held (removal.Head o.id) with_head old_free (new_stay was)));
             stands = λ e. inr (exact_stands held all_gone (exact_all e));
           },
         ),
@@ -717,18 +801,30 @@ module _ (tells : Bool) (next : ℕ) (rows new : Rows) (k : Kept) (path : List �
   none_more : GoodsCome none_comes (stored k) (stored k)
   none_more = record { each = λ id h t g. inl (record { was = h; good = g; alike = refl }) }
 
+  less_stay : Holds rows (stored k) → Holds new (stored k)
+  less_stay was = record { each = λ p x is. was.each p x (less p x is).1 }
+
+  no_head : HeadsCome new (stored k) (stored k)
+  no_head = record { each = λ id h. inl h }
+
   along_less : Along (IsBetween none_comes rows new (stored k)) (effects_of (both_of (Some w.id))) (stored k)
   along_less = (
     between_self none_comes rows new (stored k),
     (
       record {
         goods = goods_less none_comes (removal.Head w.id) (stored k) (stored k) none_more;
+        heads = λ was. heads_less new (removal.Head w.id) (stored k) (stored k) gone_free no_head;
+        holds = λ was. inr (hold_off new (removal.Head w.id) (stored k) gone_free (less_stay was));
         stands = λ e. inr
             (exact_stands new less_head (exact_less e));
       },
       record {
         goods = goods_less none_comes (removal.Body w.id) (stored k) less_head (goods_less none_comes (removal.Head w.id) (stored k)
             (stored k) none_more);
+        heads = λ was. heads_less new (removal.Body w.id) (stored k) less_head gone_free
+            (heads_less new (removal.Head w.id) (stored k) (stored k) gone_free no_head);
+        holds = λ was. inr (hold_off new (removal.Body w.id) less_head gone_free
+            (hold_off new (removal.Head w.id) (stored k) gone_free (less_stay was)));
         stands = λ e. inr (exact_stands new less_both (exact_less_both e));
       },
     ),

@@ -173,7 +173,7 @@ unfolding AreUnnamed
 stand_along rows [] s none a = a
 stand_along rows (r ∷ rs) s none a = (a, stand_along rows rs (changed_by (effect_of r) s) none.1 (stand_off rows r s none.0 a))
 
-hold_off : (rows : Rows) (r : Removal) (s : Stored) → IsUnnamed rows (id_in r) → Holds rows s → Holds rows (changed_by (effect_of r) s)
+pub hold_off : (rows : Rows) (r : Removal) (s : Stored) → IsUnnamed rows (id_in r) → Holds rows s → Holds rows (changed_by (effect_of r) s)
 hold_off rows r s none a = record {
   each = λ path w at. let g = a.each path w at in
       record { head = g.head; text = g.text; good = good_off r s w.id g.head g.text (none.each path w at) g.good; alike = g.alike };
@@ -205,7 +205,7 @@ record Were (base t : Stored) : Type 0 where
   each : (id : ℕ) (h : Head) (x : List ℕ) → IsGood t id h x → IsGood base id h x
   heads : (id : ℕ) (x : List ℕ) → map.get t.heads id ≡ Some x → map.get base.heads id ≡ Some x
 
-had_head : (r : Removal) (t : Stored) (id : ℕ) (x : List ℕ) → map.get (changed_by (effect_of r) t).heads id ≡ Some x
+pub had_head : (r : Removal) (t : Stored) (id : ℕ) (x : List ℕ) → map.get (changed_by (effect_of r) t).heads id ≡ Some x
     → map.get t.heads id ≡ Some x
 had_head (removal.Head q) t id x is = less_was t.heads q id x is
 had_head (removal.Body q) t id x is = is

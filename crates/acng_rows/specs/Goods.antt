@@ -99,6 +99,16 @@ pub record GoodsStay (s t : Stored) : Type 0 where
 pub record GoodsCome (come : Core → List ℕ → Type 0) (s t : Stored) : Type 0 where
   pub each : (id : ℕ) (h : Head) (text : List ℕ) → IsGood t id h text → WasGood s id h text ⊎ come (core_of h) text
 
+-- the id has a head that reads
+pub record HasHead (s : Stored) (id : ℕ) : Type 0 where
+  pub head : Head
+  pub at : map.get s.heads id ≡ Some (record_text head)
+  pub reads : IsHead head
+
+-- no id got a head that reads but one of the new rows, whose body is sealed
+pub record HeadsCome (new : Rows) (s t : Stored) : Type 0 where
+  pub each : (id : ℕ) → HasHead t id → HasHead s id ⊎ (IsNamed new id × (map.contains_key t.bodies id ≡ true))
+
 -- no file may come
 abbrev pub none_comes : Core → List ℕ → Type 0
 none_comes core text = ⊥
@@ -125,10 +135,12 @@ pub record IsExact (rows : Rows) (s : Stored) : Type 0 where
   pub each : (path : List ℕ) (w : Whole) → whole_at rows path ≡ Some w → HasGood s path w
   pub only : (id : ℕ) (h : Head) (text : List ℕ) → IsGood s id h text → whole_at rows h.path ≡ Some (whole_of id h)
 
--- What stands between two rows: no good head came but of a file that may come, and where there were exactly the rows, a
--- start finds these or the new ones.
+-- What stands between two rows: no good head came but of a file that may come. Where the keeper had the old rows, no unsealed
+-- body got a head, and the keeper has the old rows or the new ones; where it had just these, a start finds the old or the new.
 pub record IsBetween (come : Core → List ℕ → Type 0) (rows new : Rows) (s t : Stored) : Type 0 where
   pub goods : GoodsCome come s t
+  pub heads : Holds rows s → HeadsCome new s t
+  pub holds : Holds rows s → Holds rows t ⊎ Holds new t
   pub stands : IsExact rows s → StandsFor rows t ⊎ StandsFor new t
 
 -- no head that reads is of an unsealed body

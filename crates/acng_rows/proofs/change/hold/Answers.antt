@@ -67,7 +67,6 @@ returns-clause-stops g c = λ tells.
 pub returns-clause-exact : goal.returns-clause-exact
 returns-clause-exact g c = on_ok_weaker c.remove_old.result
     (λ made tells exact.
-    let old = whole_at c.args.rows.now c.args.path.now in
     let mid = g.K.Keeper.kept c.put_whole.new.keeper in
     let new = g.K.Keeper.kept c.remove_old.new.keeper in
     let P : Option ℕ → Type 0 = λ o. stored new ≡ changed (effects_of (both_of o)) (stored mid) in
