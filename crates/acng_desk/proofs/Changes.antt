@@ -1,5 +1,6 @@
 -- What a desk keeps where the row and the partial body of one path are put in the place of others.
-use Rattle.std.proofs.Common.{◌≡◌, ◌≢◌, ◌⊎◌, ℕ, ◌+◌, ◌<◌, ◌≤◌, Bool, true, false, List, Some, None, Option, is_some, cond, refl, sym, ap, subst, ◌∙◌, inl, inr, arith}
+use Rattle.std.proofs.Common.{◌≡◌, ◌≢◌, ◌⊎◌, ℕ, ◌+◌, ◌<◌, ◌≤◌, Bool, true, false, List, Some, None, Option, is_some, cond, refl, sym, ap}
+use Rattle.std.proofs.Common.{subst, ◌∙◌, inl, inr, arith}
 use Rattle.std.specs.Option.{option_map}
 use mathlib.Core.Bool.{true≢false}
 use Rattle.std.specs.FinMap as map
@@ -12,7 +13,7 @@ use Rattle.acng_rows.specs.declared.row.Whole.{Whole}
 use Rattle.acng_rows.specs.Rows.{Rows, Row, Load, head_of, whole_in, out_in, whole_at, out_at}
 use Rattle.acng_rows.specs.Starts.{NamesBelow}
 use Rattle.acng_rows.proofs.Points.{tie, tied, untied}
-use Rattle.acng_desk.specs.House.{Parked, Parts, Plain, most_parts}
+use Rattle.acng_desk.specs.House.{Parked, Parts, most_parts}
 use Rattle.acng_desk.specs.Keeps.{Role, Held, Fresh, Carried, Resting, join, id_at, IsPlain, IsParked}
 
 pub no_some : {X : Type 0} {P : Type 0} (x : X) → None ≡ Some x → P
@@ -29,7 +30,8 @@ id_in row part Fresh = option_map (λ (o : Load). o.fresh) (out_in row)
 id_in row part Carried = join (out_in row) (λ o. o.part)
 id_in row part Resting = option_map (λ (p : Parked). p.handle.number) part
 
-pub at_path : (rows : Rows) (parts : Parts) (path : List ℕ) (r : Role) → id_at rows parts path r ≡ id_in (map.get rows path) (map.get parts path) r
+pub at_path : (rows : Rows) (parts : Parts) (path : List ℕ) (r : Role)
+    → id_at rows parts path r ≡ id_in (map.get rows path) (map.get parts path) r
 at_path rows parts path Held = refl
 at_path rows parts path Fresh = refl
 at_path rows parts path Carried = refl
@@ -64,13 +66,15 @@ pub record There (rows rows' : Rows) (parts parts' : Parts) (path q : List ℕ) 
   pub row_is : map.get rows' q ≡ map.get rows q
   pub part_is : map.get parts' q ≡ map.get parts q
 
-pub here_id : (rows rows' : Rows) (parts parts' : Parts) (path : List ℕ) (row : Option Row) (part : Option Parked) (q : List ℕ) (r : Role) (id : ℕ) → Here rows' parts' path row part q → id_at rows' parts' q r ≡ Some id → id_in row part r ≡ Some id
+pub here_id : (rows rows' : Rows) (parts parts' : Parts) (path : List ℕ) (row : Option Row) (part : Option Parked) (q : List ℕ) (r : Role)
+    (id : ℕ) → Here rows' parts' path row part q → id_at rows' parts' q r ≡ Some id → id_in row part r ≡ Some id
 here_id rows rows' parts parts' path row part q Held id h at = sym (ap (λ o. option_map (λ (w : Whole). w.id) (whole_in o)) h.row_is) ∙ at
 here_id rows rows' parts parts' path row part q Fresh id h at = sym (ap (λ o. option_map (λ (o : Load). o.fresh) (out_in o)) h.row_is) ∙ at
 here_id rows rows' parts parts' path row part q Carried id h at = sym (ap (λ o. join (out_in o) (λ (o : Load). o.part)) h.row_is) ∙ at
 here_id rows rows' parts parts' path row part q Resting id h at = sym (ap (option_map (λ (p : Parked). p.handle.number)) h.part_is) ∙ at
 
-pub there_id : (rows rows' : Rows) (parts parts' : Parts) (path q : List ℕ) (r : Role) (id : ℕ) → There rows rows' parts parts' path q → id_at rows' parts' q r ≡ Some id → id_at rows parts q r ≡ Some id
+pub there_id : (rows rows' : Rows) (parts parts' : Parts) (path q : List ℕ) (r : Role) (id : ℕ) → There rows rows' parts parts' path q
+    → id_at rows' parts' q r ≡ Some id → id_at rows parts q r ≡ Some id
 there_id rows rows' parts parts' path q Held id h at = sym (ap (λ o. option_map (λ (w : Whole). w.id) (whole_in o)) h.row_is) ∙ at
 there_id rows rows' parts parts' path q Fresh id h at = sym (ap (λ o. option_map (λ (o : Load). o.fresh) (out_in o)) h.row_is) ∙ at
 there_id rows rows' parts parts' path q Carried id h at = sym (ap (λ o. join (out_in o) (λ (o : Load). o.part)) h.row_is) ∙ at
@@ -78,7 +82,8 @@ there_id rows rows' parts parts' path q Resting id h at = sym (ap (option_map (�
 
 module _ (rows rows' : Rows) (parts parts' : Parts) (path : List ℕ) (row : Option Row) (part : Option Parked)
     (c : Changes rows rows' parts parts' path row part) where
-  by_tie : (q : List ℕ) (b : Bool) → tie q path ≡ b → map.get rows' q ≡ cond b row (map.get rows q) → map.get parts' q ≡ cond b part (map.get parts q)
+  by_tie : (q : List ℕ) (b : Bool) → tie q path ≡ b → map.get rows' q ≡ cond b row (map.get rows q)
+      → map.get parts' q ≡ cond b part (map.get parts q)
       → Here rows' parts' path row part q ⊎ There rows rows' parts parts' path q
   by_tie q true t r p = inl (record { is = tied q path t; row_is = r; part_is = p })
   by_tie q false t r p = inr (record { isnt = untied q path t; row_is = r; part_is = p })
@@ -118,12 +123,22 @@ module _ (rows rows' : Rows) (parts parts' : Parts) (path : List ℕ) (row : Opt
     below_by q r id (inl h) at = f.below r id (here_id rows rows' parts parts' path row part q r id h at)
     below_by q r id (inr t) at = omega (arith, more_ids, a.below.each q r id (there_id rows rows' parts parts' path q r id t at))
 
-    apart_by : (q o : List ℕ) (r t : Role) (id : ℕ) → Where q → Where o → id_at rows' parts' q r ≡ Some id → id_at rows' parts' o t ≡ Some id → (q ≡ o) × (r ≡ t)
+    apart_by : (q o : List ℕ) (r t : Role) (id : ℕ) → Where q → Where o → id_at rows' parts' q r ≡ Some id
+        → id_at rows' parts' o t ≡ Some id → (q ≡ o) × (r ≡ t)
     unfolding Where
-    apart_by q o r t id (inl h) (inl k) x y = (h.is ∙ sym k.is, f.own r t id (here_id rows rows' parts parts' path row part q r id h x) (here_id rows rows' parts parts' path row part o t id k y))
-    apart_by q o r t id (inl h) (inr k) x y = absurd (f.foreign r t o id k.isnt (here_id rows rows' parts parts' path row part q r id h x) (there_id rows rows' parts parts' path o t id k y))
-    apart_by q o r t id (inr h) (inl k) x y = absurd (f.foreign t r q id h.isnt (here_id rows rows' parts parts' path row part o t id k y) (there_id rows rows' parts parts' path q r id h x))
-    apart_by q o r t id (inr h) (inr k) x y = a.apart.each q o r t id (there_id rows rows' parts parts' path q r id h x) (there_id rows rows' parts parts' path o t id k y)
+    apart_by q o r t id (inl h) (inl k) x y = (
+      h.is ∙ sym k.is,
+      f.own r t id (here_id rows rows' parts parts' path row part q r id h x)
+          (here_id rows rows' parts parts' path row part o t id k y),
+    )
+    apart_by q o r t id (inl h) (inr k) x y =
+        absurd (f.foreign r t o id k.isnt (here_id rows rows' parts parts' path row part q r id h x)
+        (there_id rows rows' parts parts' path o t id k y))
+    apart_by q o r t id (inr h) (inl k) x y =
+        absurd (f.foreign t r q id h.isnt (here_id rows rows' parts parts' path row part o t id k y)
+        (there_id rows rows' parts parts' path q r id h x))
+    apart_by q o r t id (inr h) (inr k) x y = a.apart.each q o r t id (there_id rows rows' parts parts' path q r id h x)
+        (there_id rows rows' parts parts' path o t id k y)
 
     parked_by : (q : List ℕ) (p : Parked) → Where q → map.get parts' q ≡ Some p → IsParked s tells q p
     unfolding Where

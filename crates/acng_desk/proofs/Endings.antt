@@ -1,19 +1,18 @@
 -- What each end of a ticket tells of the desk, the ticket and the body.
-use Rattle.std.proofs.Common.{◌≡◌, ◌≢◌, ◌⊎◌, ◌==◌, ℕ, ◌+◌, ◌<◌, ◌≤◌, Bool, true, false, not, ◌&&◌, nat_lt, List, Some, None, Option, is_some, cond, unwrap_or, refl, sym, ap, subst, ◌∙◌, inl, inr, arith}
-use Rattle.std.specs.Option.{option_map, IfSome}
+use Rattle.std.proofs.Common.{◌≡◌, ◌≢◌, ℕ, ◌<◌, Bool, true, false, not, ◌&&◌, nat_lt, List, Some, None, Option}
+use Rattle.std.proofs.Common.{is_some, cond, refl, sym, ap, subst, ◌∙◌, arith}
+use Rattle.std.specs.Option.{option_map}
 use Rattle.std.specs.Prelude.{IsSome, IsSomeAnd}
 use mathlib.Core.Bool.{true≢false}
 use Rattle.std.specs.FinMap as map
-use Rattle.acng_base.specs.declared.clock.Moment.{Moment}
 use Rattle.acng_head.specs.declared.head.Label.{Label}
 use Rattle.acng_grow.specs.declared.facts.Facts.{Facts}
 use Rattle.acng_grow.specs.declared.facts.Stage.{Stage}
 use Rattle.acng_grow.specs.declared.facts.Stage.TheVariants as stage
-use Rattle.acng_grow.specs.Grown.{Grown, File, number_in, number_of}
+use Rattle.acng_grow.specs.Grown.{Grown, File, number_in}
 use Rattle.acng_rows.specs.declared.row.Whole.{Whole}
 use Rattle.acng_rows.specs.declared.stamp.Stamp.{Stamp}
-use Rattle.acng_rows.specs.declared.stamp.Stamp.TheVariants.{Checked, Mark}
-use Rattle.acng_rows.specs.Rows.{Rows, Row, Load, whole_in, out_in, whole_at, out_at, with_whole, restamped, stamped_in}
+use Rattle.acng_rows.specs.Rows.{Rows, whole_in, out_in, whole_at, out_at, restamped, stamped_in}
 use Rattle.acng_site.specs.declared.site.Site.{Ghosts as SiteGhosts}
 use Rattle.acng_rows.specs.Starts.{NamesBelow}
 use Rattle.acng_rows.proofs.Wholes.{own_whole, twice, same_outs}
@@ -24,7 +23,7 @@ use Rattle.acng_desk.specs.declared.ticket.Info.{Info}
 use Rattle.acng_desk.specs.House.{Parked, Plain, Spot, spot_at, most_parts}
 use Rattle.acng_desk.specs.declared.ticket.PartFile.{PartFile}
 use Rattle.acng_desk.specs.Tickets.{Ticketed, IsTicket, IsPartBody, file_of}
-use Rattle.acng_desk.specs.Settles.{is_out, same_id, id_of, was_id, part_id, can_park, by_stage, end_of, left_rows, left_with, parked_in}
+use Rattle.acng_desk.specs.Settles.{is_out, same_id, id_of, was_id, part_id, can_park, by_stage, end_of, left_rows, parked_in}
 
 and_left : (a b : Bool) → (a && b) ≡ true → a ≡ true
 and_left true b is = refl
@@ -40,7 +39,8 @@ out_by : (b : Bool) (x e : Ending) → cond b x ending.Unknown ≡ e → e ≢ e
 out_by true x e is not = (refl, is)
 out_by false x e is not = absurd (not (sym is))
 
-pub end_out : (s : Spot) (t : Ticketed) (g : Grown) (e : Ending) → end_of s t g ≡ e → e ≢ ending.Unknown → (is_out (out_in s.row) t.info ≡ true) × (by_stage s t g g.seen.stage ≡ e)
+pub end_out : (s : Spot) (t : Ticketed) (g : Grown) (e : Ending) → end_of s t g ≡ e → e ≢ ending.Unknown
+    → (is_out (out_in s.row) t.info ≡ true) × (by_stage s t g g.seen.stage ≡ e)
 end_out s t g e is not = out_by (is_out (out_in s.row) t.info) (by_stage s t g g.seen.stage) e is not
 
 -- ---- the stage
@@ -68,7 +68,8 @@ cond_other : {P : Type 0} (b : Bool) (x y : Ending) → x ≢ y → ending.Drop 
 cond_other true x y not drop is = absurd (not is)
 cond_other false x y not drop is = absurd (drop is)
 
-pub same_stage : (s : Spot) (t : Ticketed) (g : Grown) (st : Stage) → by_stage s t g st ≡ ending.Same → (st ≡ stage.Same) × (same_id (id_of (whole_in s.row)) (was_id t.info) ≡ true)
+pub same_stage : (s : Spot) (t : Ticketed) (g : Grown) (st : Stage) → by_stage s t g st ≡ ending.Same → (st ≡ stage.Same)
+    × (same_id (id_of (whole_in s.row)) (was_id t.info) ≡ true)
 same_stage s t g stage.Opening is = cc
 same_stage s t g stage.Running is = cc
 same_stage s t g stage.Whole is = cc
@@ -76,19 +77,23 @@ same_stage s t g stage.Same is = (refl, cond_is (same_id (id_of (whole_in s.row)
 same_stage s t g stage.Cut is = cond_other (can_park s g) ending.Park ending.Same (λ e. cc) (λ e. cc) is
 same_stage s t g stage.Refused is = cond_other (is_some t.part_body && s.roomy) ending.Back ending.Same (λ e. cc) (λ e. cc) is
 
-pub park_stage : (s : Spot) (t : Ticketed) (g : Grown) (st : Stage) → by_stage s t g st ≡ ending.Park → (st ≡ stage.Cut) × (can_park s g ≡ true)
+pub park_stage : (s : Spot) (t : Ticketed) (g : Grown) (st : Stage) → by_stage s t g st ≡ ending.Park → (st ≡ stage.Cut)
+    × (can_park s g ≡ true)
 park_stage s t g stage.Opening is = cc
 park_stage s t g stage.Running is = cc
 park_stage s t g stage.Whole is = cc
-park_stage s t g stage.Same is = cond_other (same_id (id_of (whole_in s.row)) (was_id t.info)) ending.Same ending.Park (λ e. cc) (λ e. cc) is
+park_stage s t g stage.Same is = cond_other (same_id (id_of (whole_in s.row)) (was_id t.info)) ending.Same ending.Park (λ e. cc) (λ e. cc)
+    is
 park_stage s t g stage.Cut is = (refl, cond_is (can_park s g) ending.Park (λ e. cc) is)
 park_stage s t g stage.Refused is = cond_other (is_some t.part_body && s.roomy) ending.Back ending.Park (λ e. cc) (λ e. cc) is
 
-pub back_stage : (s : Spot) (t : Ticketed) (g : Grown) (st : Stage) → by_stage s t g st ≡ ending.Back → (st ≡ stage.Refused) × (is_some t.part_body ≡ true) × (s.roomy ≡ true)
+pub back_stage : (s : Spot) (t : Ticketed) (g : Grown) (st : Stage) → by_stage s t g st ≡ ending.Back → (st ≡ stage.Refused)
+    × (is_some t.part_body ≡ true) × (s.roomy ≡ true)
 back_stage s t g stage.Opening is = cc
 back_stage s t g stage.Running is = cc
 back_stage s t g stage.Whole is = cc
-back_stage s t g stage.Same is = cond_other (same_id (id_of (whole_in s.row)) (was_id t.info)) ending.Same ending.Back (λ e. cc) (λ e. cc) is
+back_stage s t g stage.Same is = cond_other (same_id (id_of (whole_in s.row)) (was_id t.info)) ending.Same ending.Back (λ e. cc) (λ e. cc)
+    is
 back_stage s t g stage.Cut is = cond_other (can_park s g) ending.Park ending.Back (λ e. cc) (λ e. cc) is
 back_stage s t g stage.Refused is =
     let b = cond_is (is_some t.part_body && s.roomy) ending.Back (λ e. cc) is in
@@ -111,7 +116,8 @@ room_is p path is = grind (arith, is)
 
 -- ---- the old body that is still the file
 
-pub same_held : (o : Option Whole) (i : Info) (n : Option ℕ) → same_id (id_of o) (was_id i) ≡ true → n ≡ was_id i → is_some n ≡ true → is_some o ≡ true
+pub same_held : (o : Option Whole) (i : Info) (n : Option ℕ) → same_id (id_of o) (was_id i) ≡ true → n ≡ was_id i → is_some n ≡ true
+    → is_some o ≡ true
 same_held (Some w) i n same is some = refl
 same_held None i n same is some = by (was_id i) (sym (ap is_some is) ∙ some) same
   where
@@ -129,7 +135,8 @@ some_stamped stamp None has = has
 some_stamped stamp (Some w) has = refl
 
 pub stamp_left : (rows : Rows) (path : List ℕ) (stamp : Stamp) → is_some (whole_at rows path) ≡ true
-    → left_rows (restamped stamp rows path) path (whole_at (restamped stamp rows path) path) false ≡ left_rows rows path (stamped_in stamp (whole_at rows path)) false
+    → left_rows (restamped stamp rows path) path (whole_at (restamped stamp rows path) path) false ≡ left_rows rows path
+    (stamped_in stamp (whole_at rows path)) false
 stamp_left rows path stamp has =
     let x = stamped_in stamp (whole_at rows path) in
     let m = restamped stamp rows path in
@@ -142,7 +149,8 @@ stamp_left rows path stamp has =
 
 -- ---- the body at rest
 
-pub park_is : (o : Option File) (u : Option (List ℕ)) (l : Option Label) (facts : Facts) (x : File) (url : List ℕ) (label : Label) → o ≡ Some x → u ≡ Some url → l ≡ Some label
+pub park_is : (o : Option File) (u : Option (List ℕ)) (l : Option Label) (facts : Facts) (x : File) (url : List ℕ) (label : Label)
+    → o ≡ Some x → u ≡ Some url → l ≡ Some label
     → parked_in o u l facts ≡ Some (record { handle = x.0; url = url; label = label; facts = facts })
 park_is o u l facts x url label a b c = (λ i. parked_in (a i) (b i) (c i) facts)
 
@@ -153,18 +161,22 @@ pub record PartOf (i : Info) (b : Parked) : Type 0 where
   pub at : i.part ≡ Some part
   pub is : file_of b ≡ part
 
-part_by : {S : Type 0} (s : SiteGhosts S) (tells : Bool) (path : List ℕ) (i : Info) (b : Parked) (o : Option PartFile) → i.part ≡ o → IsSomeAnd o (λ p. IsPartBody s tells path p b) → PartOf i b
+part_by : {S : Type 0} (s : SiteGhosts S) (tells : Bool) (path : List ℕ) (i : Info) (b : Parked) (o : Option PartFile) → i.part ≡ o
+    → IsSomeAnd o (λ p. IsPartBody s tells path p b) → PartOf i b
 part_by s tells path i b None at is = absurd is
 part_by s tells path i b (Some p) at is = record { part = p; at = at; is = is.of }
 
-pub ticket_part : {S : Type 0} (s : SiteGhosts S) (tells : Bool) (t : Ticketed) (b : Parked) → IsTicket s tells t → t.part_body ≡ Some b → PartOf t.info b
+pub ticket_part : {S : Type 0} (s : SiteGhosts S) (tells : Bool) (t : Ticketed) (b : Parked) → IsTicket s tells t → t.part_body ≡ Some b
+    → PartOf t.info b
 ticket_part s tells t b a is = part_by s tells t.info.path t.info b t.info.part refl
     (some_if (λ x. IsSomeAnd t.info.part (λ p. IsPartBody s tells t.info.path p x)) t.part_body b is a.part_body)
 
-pub ticket_below : {S : Type 0} (s : SiteGhosts S) (tells : Bool) (t : Ticketed) (b : Parked) → IsTicket s tells t → t.part_body ≡ Some b → NamesBelow t.info.first b.label
+pub ticket_below : {S : Type 0} (s : SiteGhosts S) (tells : Bool) (t : Ticketed) (b : Parked) → IsTicket s tells t → t.part_body ≡ Some b
+    → NamesBelow t.info.first b.label
 ticket_below s tells t b a is =
     let p = ticket_part s tells t b a is in
-    subst (NamesBelow t.info.first) (sym (ap (λ (f : PartFile). f.label) p.is)) (some_if (λ (f : PartFile). NamesBelow t.info.first f.label) t.info.part p.part p.at a.part_below)
+    subst (NamesBelow t.info.first) (sym (ap (λ (f : PartFile). f.label) p.is)) (some_if (λ (f : PartFile). NamesBelow t.info.first f.label)
+    t.info.part p.part p.at a.part_below)
 
 pub part_number : (i : Info) (b : Parked) → PartOf i b → part_id i ≡ Some b.handle.number
 part_number i b p = ap (option_map (λ (f : PartFile). f.id)) p.at ∙ ap (λ n. Some n) (sym (ap (λ (f : PartFile). f.id) p.is))

@@ -1,9 +1,10 @@
 -- A desk of which no ticket is out, once the ticket that it gave out was settled.
-use Rattle.std.proofs.Common.{◌≡◌, ◌≢◌, ◌⊎◌, ℕ, ◌+◌, Bool, true, false, ◌||◌, List, Some, None, Option, is_some, cond, refl, sym, ap, subst, ◌∙◌, inl, inr}
+use Rattle.std.proofs.Common.{◌≡◌, ◌≢◌, ℕ, Bool, true, false, ◌||◌, List, None, Option, is_some, cond, refl, sym, subst}
+use Rattle.std.proofs.Common.{◌∙◌, inl, inr}
 use Rattle.std.specs.FinMap as map
 use Rattle.acng_grow.specs.Grown.{Grown}
 use Rattle.acng_rows.specs.declared.row.Whole.{Whole}
-use Rattle.acng_rows.specs.Rows.{Rows, Row, Load, out_in, out_at, whole_in}
+use Rattle.acng_rows.specs.Rows.{Rows, Load, out_at, whole_in}
 use Rattle.acng_rows.proofs.Points.{tie, tied, untied}
 use Rattle.acng_rows.proofs.Wholes.{out-insert, out-remove}
 use Rattle.acng_desk.specs.declared.ending.Ending.{Ending}
@@ -12,7 +13,7 @@ use Rattle.acng_desk.specs.House.{Parked, Plain, spot_at}
 use Rattle.acng_desk.specs.Keeps.{IsIdle}
 use Rattle.acng_desk.specs.Tickets.{Ticketed}
 use Rattle.acng_desk.specs.Begins.{led, led_row}
-use Rattle.acng_desk.specs.Settles.{end_of, ended, left_rows, left_with, whole_after, part_after, Falls}
+use Rattle.acng_desk.specs.Settles.{ended, left_with, whole_after, part_after, Falls}
 
 -- no ticket is out but at this path
 pub record IsIdleBut (path : List ℕ) (p : Plain) : Type 0 where
@@ -28,7 +29,8 @@ led_idle path p a = record {
       ∙ off_case (tie q path) q path (led_row (spot_at p path)).out (out_at p.rows q) refl off ∙ a.each q;
 }
 
-none_case : (rows : Rows) (b : Bool) (q path : List ℕ) → tie q path ≡ b → ((q : List ℕ) → q ≢ path → out_at rows q ≡ None) → cond b None (out_at rows q) ≡ None
+none_case : (rows : Rows) (b : Bool) (q path : List ℕ) → tie q path ≡ b → ((q : List ℕ) → q ≢ path → out_at rows q ≡ None)
+    → cond b None (out_at rows q) ≡ None
 none_case rows true q path t a = refl
 none_case rows false q path t a = a q (untied q path t)
 
@@ -48,6 +50,7 @@ ended_idle ending.Park t g p not a = left_idle g.path (whole_in (map.get p.rows 
 ended_idle ending.Back t g p not a = left_idle g.path (whole_in (map.get p.rows g.path)) (part_after ending.Back t g) p a
 ended_idle ending.Drop t g p not a = left_idle g.path (whole_in (map.get p.rows g.path)) None p a
 
-pub fallen_idle : (e : Ending) (t : Ticketed) (g : Grown) (p q : Plain) → e ≢ ending.Unknown → IsIdleBut g.path p → Falls e t g p q → IsIdle q
+pub fallen_idle : (e : Ending) (t : Ticketed) (g : Grown) (p q : Plain) → e ≢ ending.Unknown → IsIdleBut g.path p → Falls e t g p q
+    → IsIdle q
 fallen_idle e t g p q not a (inl is) = subst IsIdle (sym is) (ended_idle e t g p not a)
 fallen_idle e t g p q not a (inr is) = subst IsIdle (sym is) (left_idle g.path (whole_in (map.get p.rows g.path)) None p a)

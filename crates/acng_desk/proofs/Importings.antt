@@ -1,6 +1,6 @@
 -- What a desk keeps where an import is put.
-use Rattle.std.proofs.Common.{Result, Ok, Err, OnOk, OnErr, ◌≡◌, ◌≢◌, ◌⊎◌, ℕ, ◌+◌, ◌<◌, ◌≤◌, ◌^◌, ◌&&◌, Bool, true, false, not, List}
-use Rattle.std.proofs.Common.{length, Some, None, Option, is_some}
+use Rattle.std.proofs.Common.{◌≡◌, ◌≢◌, ◌⊎◌, ℕ, ◌+◌, ◌<◌, ◌≤◌, ◌^◌, ◌&&◌, Bool, true, false, not, List}
+use Rattle.std.proofs.Common.{Some, None, Option, is_some}
 use Rattle.std.proofs.Common.{cond, nat_le, unwrap_or, refl, sym, ap, subst, ◌∙◌, inl, inr, arith}
 use Rattle.std.specs.Option.{option_map}
 use mathlib.Core.Bool.{true≢false}
@@ -20,29 +20,26 @@ use Rattle.acng_grow.specs.Stands.{IsImport}
 use Rattle.acng_rows.specs.declared.row.Whole.{Whole}
 use Rattle.acng_rows.specs.Rows.{Rows, Row, Load, bare, head_of, whole_in, out_in, whole_at, out_at, id_in_whole, with_whole, reserved}
 use Rattle.acng_rows.specs.Rows.{released}
-use Rattle.acng_rows.specs.Goods.{AreHeld, AreSealed, Core, core_of, HasBody, Holds, IsBetween, IsUnnamed, whole_comes}
+use Rattle.acng_rows.specs.Goods.{AreSealed, Core, core_of, HasBody, Holds, IsBetween, IsExact, whole_comes}
 use Rattle.acng_rows.specs.Removals.{KeepsLoose, both_of}
 use Rattle.acng_rows.specs.Starts.{NamesBelow}
 use Rattle.acng_rows.proofs.Faithful.{faithful_between}
 use Rattle.acng_rows.proofs.Points.{tie, tied, got-insert, got_own}
-use Rattle.acng_rows.proofs.Wholes.{same_wholes, same_outs, own_whole, none_is, twice, undone}
-use Rattle.acng_rows.proofs.Seals.{alike_held, alike_unnamed}
-use Rattle.acng_desk.specs.House.{Parked, Parts, Plain, House, spot_at}
+use Rattle.acng_rows.proofs.Wholes.{same_wholes, same_outs, whole-insert, own_whole, none_is, twice, undone}
+use Rattle.acng_rows.proofs.Seals.{alike_exact, seal_stops, mid_exact, stops_alike}
+use Rattle.acng_desk.specs.House.{Parts, Plain, House, spot_at}
 use Rattle.acng_desk.specs.Keeps.{Role, Held, Fresh, Carried, Resting, join, id_at, AreLoose, IsNobodys, IsPlain, IsSound}
 use Rattle.acng_desk.specs.Begins.{is_full}
 use Rattle.acng_desk.specs.Commands.{imported, put_in}
 use Rattle.acng_desk.specs.Imports.{HasImport}
+use Rattle.acng_desk.proofs.Discards.{nobodys_unnamed}
 use Rattle.acng_desk.proofs.Changes.{id_in, Changes, FitsAt, changed_plain}
-use Rattle.acng_desk.proofs.Kepts.{FileIs, held_of, sealed_of, to_so, from_so}
+use Rattle.acng_desk.proofs.Kepts.{sealed_of, to_so, from_so}
+use Rattle.acng_desk.specs.Stops.{IsFile, KeepsFiles}
 use Rattle.acng_desk.proofs.Removes.{same_loose}
 use Rattle.acng_desk.proofs.Seals.{may_faithful, may_holds, may_loose, body_there}
 
 -- ---- a body that nobody has is sealed
-
-pub nobodys_unnamed : (rows : Rows) (parts : Parts) (id : ℕ) → IsNobodys rows parts id → IsUnnamed rows id
-nobodys_unnamed rows parts id n = record {
-  each = λ path w at same. n.each path Held (ap (option_map (λ (x : Whole). x.id)) at ∙ ap (λ i. Some i) same);
-}
 
 pub seal_sound : {S : Type 0} (s : SiteGhosts S) (tells : Bool) (h : House) (id : ℕ) (text : List ℕ) (k : Kept) (f : Faults) (next : ℕ)
     → next ≡ h.plain.next_id
@@ -67,6 +64,16 @@ seal_sound s tells h id text k f next same n loose may a =
 pub sealed_there : (k l : Kept) (id : ℕ) (text : List ℕ) → Comes (Sealed id text) k l → map.get l.bodies id ≡ Some text
 sealed_there k l id text is = ap (λ (x : Kept). map.get x.bodies id) is ∙ body_there k id text
 
+-- the rows have their files
+pub seal_files : {S : Type 0} (s : SiteGhosts S) (tells : Bool) (h new : House) (id : ℕ) (text : List ℕ) → IsSound s tells h
+    → tells ≡ true → map.contains_key h.kept.loose id ≡ true → new.plain.rows ≡ h.plain.rows → MayCome (Sealed id text) h.kept new.kept
+    → KeepsFiles s h new
+seal_files s tells h new id text a told loose same may =
+    let sealed = sealed_of s h.kept (a.kept told).faithful in (
+      seal_stops h.kept id text sealed loose new.kept may (IsFile s) h.plain.rows h.plain.rows,
+      λ f. subst (λ m. IsExact m (stored new.kept)) (sym same) (mid_exact h.kept id text sealed loose new.kept may h.plain.rows f),
+    )
+
 -- ---- the head of an import
 
 pub import_head : (path : List ℕ) (id : ℕ) (hash : Hash) (size : ℕ) (now : Moment) → path_refusal path ≡ None → IsHash hash
@@ -79,7 +86,7 @@ import_head path id hash size now good typed moment small = record {
 
 pub import_file : {S : Type 0} (s : SiteGhosts S) (path : List ℕ) (id : ℕ) (hash : Hash) (size : ℕ) (now : Moment) (text : List ℕ)
     → IsImport hash size text
-    → FileIs s (core_of (head_of path (imported id hash size now))) text
+    → IsFile s (core_of (head_of path (imported id hash size now))) text
 import_file s path id hash size now text is = (is, record { total = refl; from = record { tag = refl; modified = refl; total = refl } })
 
 pub import_body : (k : Kept) (id : ℕ) (hash : Hash) (size : ℕ) (now : Moment) → HasImport k id hash size
@@ -283,20 +290,48 @@ put_sound s tells h path id hash size now k f m next a n low head room same hold
     }))
 
 -- the import is as its head says
+came_file : {S : Type 0} (s : SiteGhosts S) (path : List ℕ) (id : ℕ) (hash : Hash) (size : ℕ) (now : Moment) (k : Kept)
+    → HasImport k id hash size → (core : Core) (text : List ℕ) → whole_comes path (imported id hash size now) k core text
+    → IsFile s core text
+came_file s path id hash size now k i core other comes =
+    let same : i.text ≡ other = ap (λ o. unwrap_or o i.text) (sym i.body ∙ comes.1) in
+    subst (λ x. IsFile s x other) (sym comes.0)
+    (subst (IsFile s (core_of (head_of path (imported id hash size now)))) same (import_file s path id hash size now i.text i.file))
+
+with_same : (rows mid : Rows) (path : List ℕ) (w : Whole) → ((q : List ℕ) → whole_at mid q ≡ whole_at rows q) → (q : List ℕ)
+    → whole_at (with_whole rows path (Some w)) q ≡ whole_at (with_whole mid path (Some w)) q
+with_same rows mid path w same q = whole-insert rows path (record { whole = Some w; out = out_at rows path }) q
+    ∙ ap (cond (tie q path) (Some w)) (sym (same q)) ∙ sym (whole-insert mid path (record { whole = Some w; out = out_at mid path }) q)
+
+-- at any stop
+pub put_stops : {S : Type 0} (s : SiteGhosts S) (path : List ℕ) (id : ℕ) (hash : Hash) (size : ℕ) (now : Moment) (rows mid : Rows)
+    (k l : Kept)
+    → HasImport k id hash size → ((q : List ℕ) → whole_at mid q ≡ whole_at rows q)
+    → LeavesOnly (IsBetween (whole_comes path (imported id hash size now) k) mid (with_whole mid path (Some (imported id hash size now)))
+    (stored k)) k l
+    → LeavesOnly (IsBetween (IsFile s) rows (with_whole rows path (Some (imported id hash size now))) (stored k)) k l
+put_stops s path id hash size now rows mid k l i same left =
+    let w = imported id hash size now in
+    stops_alike (whole_comes path w k) (IsFile s) mid rows (with_whole mid path (Some w)) (with_whole rows path (Some w)) (stored k) k l
+    (λ q. sym (same q)) (with_same rows mid path w same) (came_file s path id hash size now k i) left
+
+-- a start finds the new rows
+pub put_found : (path : List ℕ) (w : Whole) (rows mid m new : Rows) (k l : Kept) → ((q : List ℕ) → whole_at mid q ≡ whole_at rows q)
+    → new ≡ with_whole rows path (Some w) → m ≡ with_whole mid path (Some w) → (IsExact mid (stored k) → IsExact m (stored l))
+    → IsExact rows (stored k) → IsExact new (stored l)
+put_found path w rows mid m new k l same done is exact found =
+    subst (λ n. IsExact n (stored l)) (sym done)
+    (alike_exact (with_whole mid path (Some w)) (with_whole rows path (Some w)) (with_same rows mid path w same) (stored l)
+    (subst (λ n. IsExact n (stored l)) is (exact (alike_exact rows mid same (stored k) found))))
+
 pub put_faithful : {S : Type 0} (s : SiteGhosts S) (path : List ℕ) (id : ℕ) (hash : Hash) (size : ℕ) (now : Moment) (rows new : Rows)
     (k l : Kept)
     → IsFaithful s k → HasImport k id hash size → LeavesOnly (IsBetween (whole_comes path (imported id hash size now) k) rows new
     (stored k)) k l
     → (AreSealed k → AreSealed l) → IsFaithful s l
 put_faithful s path id hash size now rows new k l f i left sealed =
-    let c = core_of (head_of path (imported id hash size now)) in
-    from_so s l (faithful_between (FileIs s) (whole_comes path (imported id hash size now) k) rows new k l left
-    (λ core other comes. subst (λ x. FileIs s x other) (sym comes.0) (subst (FileIs s c) (text_is i other comes.1)
-    (import_file s path id hash size now i.text i.file)))
-    (sealed (sealed_of s k f)) (to_so s k f))
-  where
-    text_is : (i' : HasImport k id hash size) (other : List ℕ) → map.get k.bodies id ≡ Some other → i'.text ≡ other
-    text_is i' other has = ap (λ o. unwrap_or o i'.text) (sym i'.body ∙ has)
+    from_so s l (faithful_between (IsFile s) (whole_comes path (imported id hash size now) k) rows new k l left
+    (came_file s path id hash size now k i) (sealed (sealed_of s k f)) (to_so s k f))
 
 -- ---- the rows that are left in the end
 

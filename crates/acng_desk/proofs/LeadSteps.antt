@@ -1,5 +1,6 @@
 -- The steps of giving a ticket out.
-use Rattle.std.proofs.Common.{◌≡◌, ◌≢◌, ℕ, ◌+◌, ◌-◌, ◌<◌, ◌≤◌, ◌^◌, Bool, true, false, not, List, Some, None, Option, is_some, cond, refl, sym, ap, subst, ◌∙◌, arith}
+use Rattle.std.proofs.Common.{◌≡◌, ℕ, ◌<◌, Bool, true, false, not, List, Some, None, Option, is_some, refl}
+use Rattle.std.proofs.Common.{sym, ap, subst, ◌∙◌, arith}
 use Rattle.std.specs.Option.{option_map, IfSome}
 use Rattle.std.specs.Prelude.{All, length, IsSomeAnd}
 use mathlib.Core.Bool.{true≢false}
@@ -7,7 +8,6 @@ use Rattle.std.specs.FinMap as map
 use Rattle.acng_base.specs.declared.clock.Moment.{Moment}
 use Rattle.acng_head.specs.declared.head.Label.{Label}
 use Rattle.acng_keeper.specs.Handles.{Handle, fresh}
-use Rattle.acng_keeper.specs.Kept.{Kept}
 use Rattle.acng_keeper.specs.Slips.{Faults, Later, SlipRose}
 use Rattle.acng_keeper.specs.declared.slip.KeepFault.{KeepFault}
 use Rattle.acng_keeper.specs.declared.slip.KeepFault.TheVariants.{Slip, NoMemory}
@@ -17,13 +17,12 @@ use Rattle.acng_rows.specs.Rows.{Rows, Row, Load, bare, whole_in, whole_at, rese
 use Rattle.acng_rows.specs.Starts.{NamesBelow}
 use Rattle.acng_rows.proofs.Points.{got_own}
 use Rattle.acng_rows.proofs.Wholes.{undone, twice, none_is}
-use Rattle.acng_desk.specs.declared.ticket.Info.{Info}
 use Rattle.acng_desk.specs.declared.ticket.OldFile.{OldFile}
 use Rattle.acng_desk.specs.declared.ticket.PartFile.{PartFile}
-use Rattle.acng_desk.specs.House.{Parked, Parts, Plain, House, Spot, spot_at}
-use Rattle.acng_desk.specs.Keeps.{IsSound, IsPlain, IsParked}
-use Rattle.acng_desk.specs.Tickets.{Ticketed, IsTicket, IsFresh, IsOld, IsOldBody, IsPart, IsPartBody, old_of, file_of}
-use Rattle.acng_desk.specs.Begins.{TicketAs, OldBodyAs, info_of, load_of, led_row, is_worn}
+use Rattle.acng_desk.specs.House.{Parked, House, Spot, spot_at}
+use Rattle.acng_desk.specs.Keeps.{IsSound}
+use Rattle.acng_desk.specs.Tickets.{Ticketed, IsTicket, IsOld, IsOldBody, IsPart, IsPartBody, old_of, file_of}
+use Rattle.acng_desk.specs.Begins.{OldBodyAs, info_of, load_of, is_worn}
 use Rattle.acng_desk.proofs.Leads.{tries_there}
 use Rattle.acng_desk.proofs.Wholes.{is_old, is_old_body}
 
@@ -83,25 +82,37 @@ labels_case : (o : Option Whole) → option_map (λ (f : OldFile). f.label) (opt
 labels_case None = refl
 labels_case (Some w) = refl
 
-pub load_is : (s : Spot) (o : Load) (part : Option PartFile) (was : Option OldFile) → part ≡ option_map file_of s.part → was ≡ option_map old_of (whole_in s.row)
-    → o ≡ record { first = s.next_try; fresh = s.next_id; part = option_map (λ (p : PartFile). p.id) part; was = option_map (λ (f : OldFile). f.label) was }
+pub load_is : (s : Spot) (o : Load) (part : Option PartFile) (was : Option OldFile) → part ≡ option_map file_of s.part
+    → was ≡ option_map old_of (whole_in s.row)
+    → o ≡ record {
+      first = s.next_try;
+      fresh = s.next_id;
+      part = option_map (λ (p : PartFile). p.id) part;
+      was =
+          option_map (λ (f : OldFile). f.label) was;
+    }
     → o ≡ load_of s
 load_is s o part was part_is was_is is =
-    let parts : option_map (λ (p : PartFile). p.id) part ≡ option_map (λ (p : Parked). p.handle.number) s.part = ap (option_map (λ (f : PartFile). f.id)) part_is ∙ ids_case s.part in
-    let labels : option_map (λ (f : OldFile). f.label) was ≡ option_map (λ (w : Whole). w.label) (whole_in s.row) = ap (option_map (λ (f : OldFile). f.label)) was_is ∙ labels_case (whole_in s.row) in
+    let parts : option_map (λ (p : PartFile). p.id) part ≡ option_map (λ (p : Parked). p.handle.number) s.part =
+    ap (option_map (λ (f : PartFile). f.id)) part_is ∙ ids_case s.part in
+    let labels : option_map (λ (f : OldFile). f.label) was ≡ option_map (λ (w : Whole). w.label) (whole_in s.row) =
+    ap (option_map (λ (f : OldFile). f.label)) was_is ∙ labels_case (whole_in s.row) in
     is ∙ (λ i. record { first = s.next_try; fresh = s.next_id; part = parts i; was = labels i })
 
-pub labels_are : (o : Option Whole) (was : Option OldFile) → was ≡ option_map old_of o → option_map (λ (f : OldFile). f.label) was ≡ option_map (λ (w : Whole). w.label) o
+pub labels_are : (o : Option Whole) (was : Option OldFile) → was ≡ option_map old_of o
+    → option_map (λ (f : OldFile). f.label) was ≡ option_map (λ (w : Whole). w.label) o
 labels_are o was is = ap (option_map (λ (f : OldFile). f.label)) is ∙ labels_case o
 
 -- ---- the ticket keeps what a ticket keeps
 
-module _ {S : Type 0} (s : SiteGhosts S) (tells body_tells : Bool) (same : body_tells ≡ tells) (h : House) (path : List ℕ) (a : IsSound s tells h) where
+module _ {S : Type 0} (s : SiteGhosts S) (tells body_tells : Bool) (same : body_tells ≡ tells) (h : House) (path : List ℕ)
+    (a : IsSound s tells h) where
   old_case : (o : Option Whole) → whole_at h.plain.rows path ≡ o → IfSome (option_map old_of o) (IsOld s path)
   old_case None at = tt
   old_case (Some w) at = is_old s tells h path w a at
 
-  below_case : (o : Option Whole) → whole_at h.plain.rows path ≡ o → IfSome (option_map old_of o) (λ (f : OldFile). NamesBelow h.plain.next_try f.label)
+  below_case : (o : Option Whole) → whole_at h.plain.rows path ≡ o
+      → IfSome (option_map old_of o) (λ (f : OldFile). NamesBelow h.plain.next_try f.label)
   below_case None at = tt
   below_case (Some w) at = a.plain.tries.whole path w at
 
@@ -116,11 +127,13 @@ module _ {S : Type 0} (s : SiteGhosts S) (tells body_tells : Bool) (same : body_
   part_case None at = tt
   part_case (Some p) at = (a.plain.stand.parked path p at).file
 
-  part_below_case : (o : Option Parked) → map.get h.plain.parts path ≡ o → IfSome (option_map file_of o) (λ (f : PartFile). NamesBelow h.plain.next_try f.label)
+  part_below_case : (o : Option Parked) → map.get h.plain.parts path ≡ o
+      → IfSome (option_map file_of o) (λ (f : PartFile). NamesBelow h.plain.next_try f.label)
   part_below_case None at = tt
   part_below_case (Some p) at = a.plain.tries.part path p at
 
-  part_body_case : (o : Option Parked) → map.get h.plain.parts path ≡ o → IfSome o (λ b. IsSomeAnd (option_map file_of o) (λ f. IsPartBody s body_tells path f b))
+  part_body_case : (o : Option Parked) → map.get h.plain.parts path ≡ o
+      → IfSome o (λ b. IsSomeAnd (option_map file_of o) (λ f. IsPartBody s body_tells path f b))
   part_body_case None at = tt
   part_body_case (Some p) at = subst (λ t. IsPartBody s t path (file_of p) p) (sym same) (a.plain.stand.parked path p at).body
 
@@ -134,8 +147,10 @@ module _ {S : Type 0} (s : SiteGhosts S) (tells body_tells : Bool) (same : body_
     part_body = map.get h.plain.parts path;
   }
 
-  pub given_keeps : (origins : List (List ℕ)) (now : Moment) (old : Option Handle) → 0 < length origins → (s.tells ≡ true → All (λ u. s.serves u path ≡ true) origins)
-      → is_worn (spot_at h.plain path) ≡ false → OldBodyAs tells h.kept (whole_at h.plain.rows path) old → IsTicket s body_tells (given origins now old)
+  pub given_keeps : (origins : List (List ℕ)) (now : Moment) (old : Option Handle) → 0 < length origins
+      → (s.tells ≡ true → All (λ u. s.serves u path ≡ true) origins)
+      → is_worn (spot_at h.plain path) ≡ false → OldBodyAs tells h.kept (whole_at h.plain.rows path) old
+      → IsTicket s body_tells (given origins now old)
   given_keeps origins now old some serve worn is = record {
     some = some;
     serve = serve;

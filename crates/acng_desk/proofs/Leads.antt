@@ -1,19 +1,17 @@
 -- What a desk keeps where a ticket is given out.
-use Rattle.std.proofs.Common.{◌≡◌, ◌≢◌, ◌⊎◌, ℕ, ◌+◌, ◌-◌, ◌<◌, ◌≤◌, ◌^◌, Bool, true, false, not, ◌&&◌, ◌||◌, nat_le, nat_lt, List, Some, None, Option, is_some, cond, unwrap_or, refl, sym, ap, subst, ◌∙◌, inl, inr, arith}
-use Rattle.std.specs.Option.{option_map}
-use mathlib.Core.Bool.{true≢false}
+use Rattle.std.proofs.Common.{◌≡◌, ◌≢◌, ◌⊎◌, ℕ, ◌+◌, ◌-◌, ◌<◌, ◌≤◌, ◌^◌, Bool, true, false, not, ◌&&◌, nat_le, List, Some}
+use Rattle.std.proofs.Common.{None, cond, unwrap_or, refl, sym, ap, subst, ◌∙◌, inl, inr, arith}
 use Rattle.std.specs.FinMap as map
 use Rattle.std.specs.Cmp.Lexicographic.{nat_list_cmp_total}
 use Rattle.acng_site.specs.declared.site.Site.{Ghosts as SiteGhosts}
-use Rattle.acng_rows.specs.declared.row.Whole.{Whole}
-use Rattle.acng_rows.specs.Rows.{Rows, Row, Load, head_of, whole_in, out_in, whole_at, out_at}
+use Rattle.acng_rows.specs.Rows.{Row, Load}
 use Rattle.acng_keeper.specs.Kept.{Kept, stored, with_loose, IdsBelow as KeysBelow}
 use Rattle.acng_keeper.specs.Slips.{Faults}
 use Rattle.acng_rows.specs.Goods.{Holds}
-use Rattle.acng_rows.proofs.Points.{tie, got-insert, got-remove}
+use Rattle.acng_rows.proofs.Points.{got-insert, got-remove}
 use Rattle.acng_rows.proofs.Wholes.{same_wholes}
-use Rattle.acng_desk.specs.House.{Parked, Parts, Plain, House, spot_at, most_parts}
-use Rattle.acng_desk.specs.Keeps.{Role, Held, Fresh, Carried, Resting, join, id_at, AreLoose, IsPlain, IsKept, IsSound}
+use Rattle.acng_desk.specs.House.{Plain, House, spot_at, most_parts}
+use Rattle.acng_desk.specs.Keeps.{Role, Held, Fresh, Carried, Resting, id_at, AreLoose, IsPlain, IsKept, IsSound}
 use Rattle.acng_desk.specs.Begins.{led, led_row, load_of, is_full, is_worn}
 use Rattle.acng_desk.proofs.Changes.{no_some, later, id_in, Changes, FitsAt, Here, There, here_id, there_id, found, changed_plain}
 use Rattle.acng_desk.proofs.Stores.{new_loose, still_loose, made_faithful}
@@ -73,7 +71,8 @@ module _ {S : Type 0} (s : SiteGhosts S) (tells : Bool) (p : Plain) (path : List
     heads = λ w at. a.heads.each path w at;
     tries = λ w at. later p.next_try (p.next_try + 16) w.label (omega arith) (a.tries.whole path w at);
     part_tries = λ x is. no_some x is;
-    out_tries = λ o is. let e : p.next_try ≡ o.first = ap (λ (l : Load). l.first) (some_is (load_of (spot_at p path)) o is) in omega (arith, e);
+    out_tries = λ o is. let e : p.next_try ≡ o.first = ap (λ (l : Load). l.first) (some_is (load_of (spot_at p path)) o is) in
+        omega (arith, e);
     below = led_below;
     foreign = led_foreign;
     own = led_own;
@@ -93,14 +92,18 @@ module _ {S : Type 0} (s : SiteGhosts S) (tells : Bool) (p : Plain) (path : List
   pub led_plain : is_full (spot_at p path) ≡ false → IsPlain s tells (led path p)
   led_plain room = changed_plain p.rows (led path p).rows p.parts (led path p).parts path (Some row) None changes s tells p.limit p.rules
       p.next_try p.next_id (p.next_try + 16) (p.next_id + 1) led_fits a (omega arith) (omega arith)
-      (subst (λ n. n ≤ p.limit) (sym (map.len-insert nat_list_cmp_total p.rows path row)) (len_case (map.contains_key p.rows path) (map.len p.rows) p.limit room a.few))
-      (subst (λ n. n ≤ most_parts) (sym (map.len-remove nat_list_cmp_total p.parts path)) (less_case (map.contains_key p.parts path) (map.len p.parts) a.few_parts))
+      (subst (λ n. n ≤ p.limit) (sym (map.len-insert nat_list_cmp_total p.rows path row))
+      (len_case (map.contains_key p.rows path) (map.len p.rows) p.limit room a.few))
+      (subst (λ n. n ≤ most_parts) (sym (map.len-remove nat_list_cmp_total p.parts path))
+      (less_case (map.contains_key p.parts path) (map.len p.parts) a.few_parts))
 
   -- ---- what the keeper has
 
-  led_loose_here : (k l : Kept) (r : Role) (id : ℕ) → l ≡ with_loose p.next_id k → AreLoose k p.rows p.parts → r ≢ Held → id_in (Some row) None r ≡ Some id → map.contains_key l.loose id ≡ true
+  led_loose_here : (k l : Kept) (r : Role) (id : ℕ) → l ≡ with_loose p.next_id k → AreLoose k p.rows p.parts → r ≢ Held
+      → id_in (Some row) None r ≡ Some id → map.contains_key l.loose id ≡ true
   led_loose_here k l Held id is loose not at = absurd (not refl)
-  led_loose_here k l Fresh id is loose not at = subst (λ n. map.contains_key l.loose n ≡ true) (some_is p.next_id id at) (new_loose k l p.next_id is)
+  led_loose_here k l Fresh id is loose not at = subst (λ n. map.contains_key l.loose n ≡ true) (some_is p.next_id id at)
+      (new_loose k l p.next_id is)
   led_loose_here k l Carried id is loose not at = still_loose k l p.next_id is id (loose.each path Resting id (λ e. cc) at)
   led_loose_here k l Resting id is loose not at = no_some id at
 
@@ -123,7 +126,8 @@ module _ {S : Type 0} (s : SiteGhosts S) (tells : Bool) (p : Plain) (path : List
     faithful = made_faithful k l p.next_id is s below a.faithful;
   }
 
-pub led_sound : {S : Type 0} (s : SiteGhosts S) (tells : Bool) (h : House) (path : List ℕ) (k : Kept) (f : Faults) → is_full (spot_at h.plain path) ≡ false
+pub led_sound : {S : Type 0} (s : SiteGhosts S) (tells : Bool) (h : House) (path : List ℕ) (k : Kept) (f : Faults)
+    → is_full (spot_at h.plain path) ≡ false
     → (tells ≡ true → k ≡ with_loose h.plain.next_id h.kept) → (tells ≡ true → KeysBelow h.plain.next_id h.kept.heads) → IsSound s tells h
     → IsSound s tells (record { plain = led path h.plain; kept = k; faults = f })
 led_sound s tells h path k f room come below a = record {

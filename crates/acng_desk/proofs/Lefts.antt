@@ -1,5 +1,6 @@
 -- What a desk keeps where a ticket comes in.
-use Rattle.std.proofs.Common.{◌≡◌, ◌≢◌, ◌⊎◌, ℕ, ◌+◌, ◌-◌, ◌<◌, ◌≤◌, Bool, true, false, ◌||◌, List, Some, None, Option, is_some, cond, unwrap_or, refl, sym, ap, subst, ◌∙◌, inl, inr, arith}
+use Rattle.std.proofs.Common.{◌≡◌, ◌≢◌, ◌⊎◌, ℕ, ◌+◌, ◌-◌, ◌<◌, ◌≤◌, Bool, true, false, ◌||◌, List, Some, None, Option, is_some, cond}
+use Rattle.std.proofs.Common.{unwrap_or, refl, sym, ap, subst, ◌∙◌, inl, inr, arith}
 use Rattle.std.specs.Option.{option_map}
 use mathlib.Core.Bool.{true≢false}
 use Rattle.std.specs.FinMap as map
@@ -11,7 +12,7 @@ use Rattle.acng_rows.specs.declared.row.Whole.{Whole}
 use Rattle.acng_rows.specs.Rows.{Rows, Row, Load, head_of, whole_in, out_in, whole_at, out_at}
 use Rattle.acng_rows.specs.Goods.{HeldAs, Holds}
 use Rattle.acng_rows.specs.Starts.{NamesBelow}
-use Rattle.acng_rows.proofs.Points.{tie, tied, untied, got-insert, got-remove}
+use Rattle.acng_rows.proofs.Points.{tie, tied, got-insert, got-remove}
 use Rattle.acng_desk.specs.House.{Parked, Parts, Plain, House, most_parts}
 use Rattle.acng_desk.specs.Keeps.{Role, Held, Fresh, Carried, Resting, join, id_at, AreLoose, IsPlain, IsParked, IsNobodys, IsSound}
 use Rattle.acng_desk.specs.Settles.{left_rows, left_parts, left_with, HasOwn}
@@ -27,7 +28,8 @@ rows_by : (rows : Rows) (path : List ℕ) (w : Option Whole) (b : Bool) (q : Lis
 rows_by rows path w true q = got-insert rows path (record { whole = w; out = None }) q
 rows_by rows path w false q = got-remove rows path q
 
-none_case : (parts : Parts) (path q : List ℕ) (b : Bool) → tie q path ≡ b → map.get parts path ≡ None → map.get parts q ≡ cond b None (map.get parts q)
+none_case : (parts : Parts) (path q : List ℕ) (b : Bool) → tie q path ≡ b → map.get parts path ≡ None
+    → map.get parts q ≡ cond b None (map.get parts q)
 none_case parts path q true t bare = ap (map.get parts) (tied q path t) ∙ bare
 none_case parts path q false t bare = refl
 
@@ -47,11 +49,13 @@ left_changes p path w part bare = record {
 bare_case : {P : Type 0} (o : Option Load) → is_some o ≡ true → o ≡ None → P
 bare_case o out none = absurd (true≢false (sym out ∙ ap is_some none))
 
-bare_by : (p : Plain) (path : List ℕ) (o : Option Parked) → ((x : Parked) → o ≡ Some x → out_at p.rows path ≡ None) → is_some (out_at p.rows path) ≡ true → o ≡ None
+bare_by : (p : Plain) (path : List ℕ) (o : Option Parked) → ((x : Parked) → o ≡ Some x → out_at p.rows path ≡ None)
+    → is_some (out_at p.rows path) ≡ true → o ≡ None
 bare_by p path None free out = refl
 bare_by p path (Some x) free out = bare_case (out_at p.rows path) out (free x refl)
 
-pub bare_out : {S : Type 0} (s : SiteGhosts S) (tells : Bool) (p : Plain) (path : List ℕ) → IsPlain s tells p → is_some (out_at p.rows path) ≡ true → map.get p.parts path ≡ None
+pub bare_out : {S : Type 0} (s : SiteGhosts S) (tells : Bool) (p : Plain) (path : List ℕ) → IsPlain s tells p
+    → is_some (out_at p.rows path) ≡ true → map.get p.parts path ≡ None
 bare_out s tells p path a out = bare_by p path (map.get p.parts path) (λ x is. a.stand.free path x is) out
 
 there_case : (o : Option Row) → is_some (out_in o) ≡ true → is_some o ≡ true
@@ -73,14 +77,16 @@ own_case None id own = absurd own
 own_case (Some o) id (inl is) = inl (ap (λ n. Some n) is)
 own_case (Some o) id (inr is) = inr is
 
-own_by : (p : Plain) (path : List ℕ) (id : ℕ) → (option_map (λ (l : Load). l.fresh) (out_at p.rows path) ≡ Some id) ⊎ (join (out_at p.rows path) (λ l. l.part) ≡ Some id) → Had p path id
+own_by : (p : Plain) (path : List ℕ) (id : ℕ) → (option_map (λ (l : Load). l.fresh) (out_at p.rows path) ≡ Some id)
+    ⊎ (join (out_at p.rows path) (λ l. l.part) ≡ Some id) → Had p path id
 own_by p path id (inl is) = record { role = Fresh; at = is }
 own_by p path id (inr is) = record { role = Carried; at = is }
 
 pub own_had : (p : Plain) (path : List ℕ) (id : ℕ) → HasOwn (out_at p.rows path) id → Had p path id
 own_had p path id own = own_by p path id (own_case (out_at p.rows path) id own)
 
-pub record Leaving {S : Type 0} (s : SiteGhosts S) (tells : Bool) (p : Plain) (path : List ℕ) (w : Option Whole) (part : Option Parked) : Type 0 where
+pub record Leaving {S : Type 0} (s : SiteGhosts S) (tells : Bool) (p : Plain) (path : List ℕ) (w : Option Whole) (part : Option Parked) :
+    Type 0 where
   pub out : is_some (out_at p.rows path) ≡ true
   pub heads : (x : Whole) → w ≡ Some x → IsHead (head_of path x)
   pub tries : (x : Whole) → w ≡ Some x → NamesBelow p.next_try x.label
@@ -95,7 +101,8 @@ some_row : (b : Bool) (v x : Row) → cond b (Some v) None ≡ Some x → v ≡ 
 some_row true v x is = ap (λ o. unwrap_or o v) is
 some_row false v x is = no_some x is
 
-whole_left : (b : Bool) (w : Option Whole) (x : Whole) → whole_in (cond b (Some (record { whole = w; out = None })) None) ≡ Some x → w ≡ Some x
+whole_left : (b : Bool) (w : Option Whole) (x : Whole) → whole_in (cond b (Some (record { whole = w; out = None })) None) ≡ Some x
+    → w ≡ Some x
 whole_left true w x is = is
 whole_left false w x is = no_some x is
 
@@ -107,23 +114,28 @@ id_some : (w : Option Whole) (id : ℕ) → option_map (λ (x : Whole). x.id) w 
 id_some None id is = no_some id is
 id_some (Some x) id is = (x, refl, ap (λ o. unwrap_or o id) is)
 
-part_some : (o : Option Parked) (id : ℕ) → option_map (λ (x : Parked). x.handle.number) o ≡ Some id → (x : Parked) × (o ≡ Some x) × (x.handle.number ≡ id)
+part_some : (o : Option Parked) (id : ℕ) → option_map (λ (x : Parked). x.handle.number) o ≡ Some id → (x : Parked) × (o ≡ Some x)
+    × (x.handle.number ≡ id)
 part_some None id is = no_some id is
 part_some (Some x) id is = (x, refl, ap (λ o. unwrap_or o id) is)
 
 -- ids in the row that is left: its whole body's and its partial body's
 pub record Kind (w : Option Whole) (part : Option Parked) (r : Role) (id : ℕ) : Type 0 where
-  pub of : ((x : Whole) × (w ≡ Some x) × (x.id ≡ id) × (r ≡ Held)) ⊎ ((x : Parked) × (part ≡ Some x) × (x.handle.number ≡ id) × (r ≡ Resting))
+  pub of : ((x : Whole) × (w ≡ Some x) × (x.id ≡ id) × (r ≡ Held)) ⊎ ((x : Parked) × (part ≡ Some x) × (x.handle.number ≡ id)
+      × (r ≡ Resting))
 
-kind_held : (b : Bool) (w : Option Whole) (part : Option Parked) (id : ℕ) → option_map (λ (x : Whole). x.id) (whole_in (cond b (Some (record { whole = w; out = None })) None)) ≡ Some id → Kind w part Held id
+kind_held : (b : Bool) (w : Option Whole) (part : Option Parked) (id : ℕ)
+    → option_map (λ (x : Whole). x.id) (whole_in (cond b (Some (record { whole = w; out = None })) None)) ≡ Some id → Kind w part Held id
 kind_held true w part id is = let k = id_some w id is in record { of = inl (k.0, k.1, k.2, refl) }
 kind_held false w part id is = no_some id is
 
-kind_fresh : (b : Bool) (w : Option Whole) (part : Option Parked) (id : ℕ) → option_map (λ (o : Load). o.fresh) (out_in (cond b (Some (record { whole = w; out = None })) None)) ≡ Some id → Kind w part Fresh id
+kind_fresh : (b : Bool) (w : Option Whole) (part : Option Parked) (id : ℕ)
+    → option_map (λ (o : Load). o.fresh) (out_in (cond b (Some (record { whole = w; out = None })) None)) ≡ Some id → Kind w part Fresh id
 kind_fresh true w part id is = no_some id is
 kind_fresh false w part id is = no_some id is
 
-kind_carried : (b : Bool) (w : Option Whole) (part : Option Parked) (id : ℕ) → join (out_in (cond b (Some (record { whole = w; out = None })) None)) (λ (o : Load). o.part) ≡ Some id → Kind w part Carried id
+kind_carried : (b : Bool) (w : Option Whole) (part : Option Parked) (id : ℕ)
+    → join (out_in (cond b (Some (record { whole = w; out = None })) None)) (λ (o : Load). o.part) ≡ Some id → Kind w part Carried id
 kind_carried true w part id is = no_some id is
 kind_carried false w part id is = no_some id is
 
@@ -135,7 +147,8 @@ kind_of w part Resting id is = let k = part_some part id is in record { of = inr
 
 module _ {S : Type 0} (s : SiteGhosts S) (tells : Bool) (p : Plain) (path : List ℕ) (w : Option Whole) (part : Option Parked)
     (a : IsPlain s tells p) (l : Leaving s tells p path w part) where
-  had_case : (r : Role) (id : ℕ) → ((x : Whole) × (w ≡ Some x) × (x.id ≡ id) × (r ≡ Held)) ⊎ ((x : Parked) × (part ≡ Some x) × (x.handle.number ≡ id) × (r ≡ Resting)) → Had p path id
+  had_case : (r : Role) (id : ℕ) → ((x : Whole) × (w ≡ Some x) × (x.id ≡ id) × (r ≡ Held))
+      ⊎ ((x : Parked) × (part ≡ Some x) × (x.handle.number ≡ id) × (r ≡ Resting)) → Had p path id
   had_case r id (inl k) = subst (Had p path) k.2 (l.whole_had k.0 k.1)
   had_case r id (inr k) = subst (Had p path) k.2 (l.part_had k.0 k.1)
 
@@ -148,8 +161,10 @@ module _ {S : Type 0} (s : SiteGhosts S) (tells : Bool) (p : Plain) (path : List
   below_by : (id : ℕ) → Had p path id → id < p.next_id
   below_by id h = a.below.each path h.role id h.at
 
-  own_case2 : (r t : Role) (id : ℕ) → ((x : Whole) × (w ≡ Some x) × (x.id ≡ id) × (r ≡ Held)) ⊎ ((x : Parked) × (part ≡ Some x) × (x.handle.number ≡ id) × (r ≡ Resting))
-      → ((x : Whole) × (w ≡ Some x) × (x.id ≡ id) × (t ≡ Held)) ⊎ ((x : Parked) × (part ≡ Some x) × (x.handle.number ≡ id) × (t ≡ Resting)) → r ≡ t
+  own_case2 : (r t : Role) (id : ℕ) → ((x : Whole) × (w ≡ Some x) × (x.id ≡ id) × (r ≡ Held))
+      ⊎ ((x : Parked) × (part ≡ Some x) × (x.handle.number ≡ id) × (r ≡ Resting))
+      → ((x : Whole) × (w ≡ Some x) × (x.id ≡ id) × (t ≡ Held)) ⊎ ((x : Parked) × (part ≡ Some x) × (x.handle.number ≡ id) × (t ≡ Resting))
+      → r ≡ t
   own_case2 r t id (inl k) (inl m) = k.3 ∙ sym m.3
   own_case2 r t id (inl k) (inr m) = absurd (l.differ k.0 m.0 k.1 m.1 (k.2 ∙ sym m.2))
   own_case2 r t id (inr k) (inl m) = absurd (l.differ m.0 k.0 m.1 k.1 (m.2 ∙ sym k.2))
@@ -197,8 +212,10 @@ module _ {S : Type 0} (s : SiteGhosts S) (tells : Bool) (p : Plain) (path : List
       (more_len (map.contains_key p.parts path) (map.len p.parts) (l.room x is))
 
   pub left_plain : IsPlain s tells (left_with path w part p)
-  left_plain = changed_plain p.rows (left_rows p.rows path w (is_some part)) p.parts (left_parts p.parts path part) path (row_left w part) part
-      (left_changes p path w part (bare_out s tells p path a l.out)) s tells p.limit p.rules p.next_try p.next_id p.next_try p.next_id fits a
+  left_plain = changed_plain p.rows (left_rows p.rows path w (is_some part)) p.parts (left_parts p.parts path part) path (row_left w part)
+      part
+      (left_changes p path w part (bare_out s tells p path a l.out)) s tells p.limit p.rules p.next_try p.next_id p.next_try p.next_id fits
+      a
       (omega arith) (omega arith) (rows_len (is_some part || is_some w)) (parts_len part refl)
 
 -- ---- ids that are nobody's from then on
@@ -206,7 +223,8 @@ module _ {S : Type 0} (s : SiteGhosts S) (tells : Bool) (p : Plain) (path : List
 module _ {S : Type 0} (s : SiteGhosts S) (tells : Bool) (p : Plain) (path : List ℕ) (w : Option Whole) (part : Option Parked)
     (a : IsPlain s tells p) (bare : map.get p.parts path ≡ None) (id : ℕ) (h : Had p path id) where
   here_case : (t : Role) → ((x : Whole) → w ≡ Some x → x.id ≢ id) → ((x : Parked) → part ≡ Some x → x.handle.number ≢ id)
-      → ((x : Whole) × (w ≡ Some x) × (x.id ≡ id) × (t ≡ Held)) ⊎ ((x : Parked) × (part ≡ Some x) × (x.handle.number ≡ id) × (t ≡ Resting)) → ⊥
+      → ((x : Whole) × (w ≡ Some x) × (x.id ≡ id) × (t ≡ Held)) ⊎ ((x : Parked) × (part ≡ Some x) × (x.handle.number ≡ id) × (t ≡ Resting))
+      → ⊥
   here_case t off off_part (inl k) = off k.0 k.1 k.2
   here_case t off off_part (inr k) = off_part k.0 k.1 k.2
 
@@ -215,7 +233,8 @@ module _ {S : Type 0} (s : SiteGhosts S) (tells : Bool) (p : Plain) (path : List
       ⊎ There p.rows (left_rows p.rows path w (is_some part)) p.parts (left_parts p.parts path part) path q
       → id_at (left_rows p.rows path w (is_some part)) (left_parts p.parts path part) q t ≡ Some id → ⊥
   freed_by q t off off_part (inl k) at = here_case t off off_part
-      (kind_of w part t id (here_id p.rows (left_rows p.rows path w (is_some part)) p.parts (left_parts p.parts path part) path (row_left w part) part q t id k at)).of
+      (kind_of w part t id (here_id p.rows (left_rows p.rows path w (is_some part)) p.parts (left_parts p.parts path part) path
+      (row_left w part) part q t id k at)).of
   freed_by q t off off_part (inr k) at = k.isnt (a.apart.each q path t h.role id
       (there_id p.rows (left_rows p.rows path w (is_some part)) p.parts (left_parts p.parts path part) path q t id k at) h.at).0
 
@@ -223,7 +242,8 @@ module _ {S : Type 0} (s : SiteGhosts S) (tells : Bool) (p : Plain) (path : List
       → IsNobodys (left_with path w part p).rows (left_with path w part p).parts id
   freed off off_part = record {
     each = λ q t at. freed_by q t off off_part
-        (found p.rows (left_rows p.rows path w (is_some part)) p.parts (left_parts p.parts path part) path (row_left w part) part (left_changes p path w part bare) q) at;
+        (found p.rows (left_rows p.rows path w (is_some part)) p.parts (left_parts p.parts path part) path (row_left w part) part
+        (left_changes p path w part bare) q) at;
   }
 
 -- ---- what the keeper has
@@ -245,24 +265,30 @@ module _ (p : Plain) (path : List ℕ) (w : Option Whole) (part : Option Parked)
   loose_kind k r id not may (inr x) = subst (λ n. map.contains_key k.loose n ≡ true) x.2 (may x.0 x.1)
 
   loose_by : (k : Kept) → AreLoose k p.rows p.parts → ((x : Parked) → part ≡ Some x → map.contains_key k.loose x.handle.number ≡ true)
-      → (q : List ℕ) (r : Role) (id : ℕ) → r ≢ Held → Here rows' parts' path (row_left w part) part q ⊎ There p.rows rows' p.parts parts' path q
+      → (q : List ℕ) (r : Role) (id : ℕ) → r ≢ Held → Here rows' parts' path (row_left w part) part q
+      ⊎ There p.rows rows' p.parts parts' path q
       → id_at rows' parts' q r ≡ Some id → map.contains_key k.loose id ≡ true
-  loose_by k a may q r id not (inl h) at = loose_kind k r id not may (kind_of w part r id (here_id p.rows rows' p.parts parts' path (row_left w part) part q r id h at)).of
+  loose_by k a may q r id not (inl h) at = loose_kind k r id not may
+      (kind_of w part r id (here_id p.rows rows' p.parts parts' path (row_left w part) part q r id h at)).of
   loose_by k a may q r id not (inr t) at = a.each q r id not (there_id p.rows rows' p.parts parts' path q r id t at)
 
-  pub left_loose : (k : Kept) → AreLoose k p.rows p.parts → ((x : Parked) → part ≡ Some x → map.contains_key k.loose x.handle.number ≡ true) → AreLoose k rows' parts'
+  pub left_loose : (k : Kept) → AreLoose k p.rows p.parts → ((x : Parked) → part ≡ Some x → map.contains_key k.loose x.handle.number ≡ true)
+      → AreLoose k rows' parts'
   left_loose k a may = record { each = λ q r id not at. loose_by k a may q r id not (spot_of q) at }
 
   holds_by : (s : Stored) → Holds p.rows s → ((x : Whole) → w ≡ Some x → HeldAs s path x) → (q : List ℕ) (x : Whole)
-      → Here rows' parts' path (row_left w part) part q ⊎ There p.rows rows' p.parts parts' path q → whole_at rows' q ≡ Some x → HeldAs s q x
-  holds_by s a own q x (inl h) at = subst (λ o. HeldAs s o x) (sym h.is) (own x (whole_left (is_some part || is_some w) w x (sym (ap whole_in h.row_is) ∙ at)))
+      → Here rows' parts' path (row_left w part) part q ⊎ There p.rows rows' p.parts parts' path q → whole_at rows' q ≡ Some x
+      → HeldAs s q x
+  holds_by s a own q x (inl h) at = subst (λ o. HeldAs s o x) (sym h.is)
+      (own x (whole_left (is_some part || is_some w) w x (sym (ap whole_in h.row_is) ∙ at)))
   holds_by s a own q x (inr t) at = a.each q x (sym (ap whole_in t.row_is) ∙ at)
 
   pub left_holds : (s : Stored) → Holds p.rows s → ((x : Whole) → w ≡ Some x → HeldAs s path x) → Holds rows' s
   left_holds s a own = record { each = λ q x at. holds_by s a own q x (spot_of q) at }
 
 -- a row that stays as it is, but for the ticket
-pub close_leaving : {S : Type 0} (s : SiteGhosts S) (tells : Bool) (p : Plain) (path : List ℕ) → IsPlain s tells p → is_some (out_at p.rows path) ≡ true
+pub close_leaving : {S : Type 0} (s : SiteGhosts S) (tells : Bool) (p : Plain) (path : List ℕ) → IsPlain s tells p
+    → is_some (out_at p.rows path) ≡ true
     → Leaving s tells p path (whole_at p.rows path) None
 close_leaving s tells p path a out = record {
   out = out;
@@ -276,7 +302,8 @@ close_leaving s tells p path a out = record {
   room = λ x is. no_some x is;
 }
 
-pub close_sound : {S : Type 0} (s : SiteGhosts S) (tells : Bool) (h : House) (path : List ℕ) → is_some (out_at h.plain.rows path) ≡ true → IsSound s tells h
+pub close_sound : {S : Type 0} (s : SiteGhosts S) (tells : Bool) (h : House) (path : List ℕ) → is_some (out_at h.plain.rows path) ≡ true
+    → IsSound s tells h
     → IsSound s tells (record h { plain = left_with path (whole_at h.plain.rows path) None h.plain })
 close_sound s tells h path out a =
     let bare : map.get h.plain.parts path ≡ None = bare_out s tells h.plain path a.plain out in
@@ -284,21 +311,25 @@ close_sound s tells h path out a =
       told = a.told;
       plain = left_plain s tells h.plain path (whole_at h.plain.rows path) None a.plain (close_leaving s tells h.plain path a.plain out);
       kept = λ told. record {
-        holds = left_holds h.plain path (whole_at h.plain.rows path) None bare (stored h.kept) (a.kept told).holds (λ x at. (a.kept told).holds.each path x at);
+        holds = left_holds h.plain path (whole_at h.plain.rows path) None bare (stored h.kept) (a.kept told).holds
+            (λ x at. (a.kept told).holds.each path x at);
         loose = left_loose h.plain path (whole_at h.plain.rows path) None bare h.kept (a.kept told).loose (λ x is. no_some x is);
         faithful = (a.kept told).faithful;
       };
     }
 
 -- a partial body of the ticket that comes to rest
-loose_had : (k : Kept) (p : Plain) (path : List ℕ) (id : ℕ) → AreLoose k p.rows p.parts → HasOwn (out_at p.rows path) id → map.contains_key k.loose id ≡ true
+loose_had : (k : Kept) (p : Plain) (path : List ℕ) (id : ℕ) → AreLoose k p.rows p.parts → HasOwn (out_at p.rows path) id
+    → map.contains_key k.loose id ≡ true
 loose_had k p path id a own = by (own_case (out_at p.rows path) id own)
   where
-    by : (option_map (λ (l : Load). l.fresh) (out_at p.rows path) ≡ Some id) ⊎ (join (out_at p.rows path) (λ (l : Load). l.part) ≡ Some id) → map.contains_key k.loose id ≡ true
+    by : (option_map (λ (l : Load). l.fresh) (out_at p.rows path) ≡ Some id) ⊎ (join (out_at p.rows path) (λ (l : Load). l.part) ≡ Some id)
+        → map.contains_key k.loose id ≡ true
     by (inl is) = a.each path Fresh id (λ e. cc) is
     by (inr is) = a.each path Carried id (λ e. cc) is
 
-pub held_own : {S : Type 0} (s : SiteGhosts S) (tells : Bool) (p : Plain) (path : List ℕ) (x : Whole) (id : ℕ) → IsPlain s tells p → whole_at p.rows path ≡ Some x → HasOwn (out_at p.rows path) id → x.id ≢ id
+pub held_own : {S : Type 0} (s : SiteGhosts S) (tells : Bool) (p : Plain) (path : List ℕ) (x : Whole) (id : ℕ) → IsPlain s tells p
+    → whole_at p.rows path ≡ Some x → HasOwn (out_at p.rows path) id → x.id ≢ id
 held_own s tells p path x id a at own same = by (own_case (out_at p.rows path) id own)
   where
     at_held : id_at p.rows p.parts path Held ≡ Some id
@@ -310,7 +341,8 @@ held_own s tells p path x id a at own same = by (own_case (out_at p.rows path) i
     not_carried : Held ≡ Carried → ⊥
     not_carried e = cc
 
-    by : (option_map (λ (l : Load). l.fresh) (out_at p.rows path) ≡ Some id) ⊎ (join (out_at p.rows path) (λ (l : Load). l.part) ≡ Some id) → ⊥
+    by : (option_map (λ (l : Load). l.fresh) (out_at p.rows path) ≡ Some id) ⊎ (join (out_at p.rows path) (λ (l : Load). l.part) ≡ Some id)
+        → ⊥
     by (inl is) = not_fresh (a.apart.each path path Held Fresh id at_held is).1
     by (inr is) = not_carried (a.apart.each path path Held Carried id at_held is).1
 
@@ -318,7 +350,8 @@ pub out_own : (o : Option Load) (id : ℕ) → HasOwn o id → is_some o ≡ tru
 out_own None id own = absurd own
 out_own (Some o) id own = refl
 
-pub rest_sound : {S : Type 0} (s : SiteGhosts S) (tells : Bool) (h : House) (path : List ℕ) (x : Parked) → HasOwn (out_at h.plain.rows path) x.handle.number
+pub rest_sound : {S : Type 0} (s : SiteGhosts S) (tells : Bool) (h : House) (path : List ℕ) (x : Parked)
+    → HasOwn (out_at h.plain.rows path) x.handle.number
     → IsParked s tells path x → NamesBelow h.plain.next_try x.label → map.len h.plain.parts < most_parts → IsSound s tells h
     → IsSound s tells (record h { plain = left_with path (whole_at h.plain.rows path) (Some x) h.plain })
 rest_sound s tells h path x own parked below room a =
@@ -331,16 +364,20 @@ rest_sound s tells h path x own parked below room a =
         heads = λ w at. a.plain.heads.each path w at;
         tries = λ w at. a.plain.tries.whole path w at;
         whole_had = λ w at. record { role = Held; at = ap (option_map (λ (w : Whole). w.id)) at };
-        part_had = λ y is. subst (λ (z : Parked). Had h.plain path z.handle.number) (ap (λ o. unwrap_or o x) is) (own_had h.plain path x.handle.number own);
+        part_had = λ y is. subst (λ (z : Parked). Had h.plain path z.handle.number) (ap (λ o. unwrap_or o x) is)
+            (own_had h.plain path x.handle.number own);
         part_tries = λ y is. subst (λ (z : Parked). NamesBelow h.plain.next_try z.label) (ap (λ o. unwrap_or o x) is) below;
         parked = λ y is. subst (IsParked s tells path) (ap (λ o. unwrap_or o x) is) parked;
-        differ = λ w y at is. subst (λ (z : Parked). w.id ≢ z.handle.number) (ap (λ o. unwrap_or o x) is) (held_own s tells h.plain path w x.handle.number a.plain at own);
+        differ = λ w y at is. subst (λ (z : Parked). w.id ≢ z.handle.number) (ap (λ o. unwrap_or o x) is)
+            (held_own s tells h.plain path w x.handle.number a.plain at own);
         room = λ y is. room;
       });
       kept = λ told. record {
-        holds = left_holds h.plain path (whole_at h.plain.rows path) (Some x) bare (stored h.kept) (a.kept told).holds (λ w at. (a.kept told).holds.each path w at);
+        holds = left_holds h.plain path (whole_at h.plain.rows path) (Some x) bare (stored h.kept) (a.kept told).holds
+            (λ w at. (a.kept told).holds.each path w at);
         loose = left_loose h.plain path (whole_at h.plain.rows path) (Some x) bare h.kept (a.kept told).loose
-            (λ y is. subst (λ (z : Parked). map.contains_key h.kept.loose z.handle.number ≡ true) (ap (λ o. unwrap_or o x) is) (loose_had h.kept h.plain path x.handle.number (a.kept told).loose own));
+            (λ y is. subst (λ (z : Parked). map.contains_key h.kept.loose z.handle.number ≡ true) (ap (λ o. unwrap_or o x) is)
+            (loose_had h.kept h.plain path x.handle.number (a.kept told).loose own));
         faithful = (a.kept told).faithful;
       };
     }

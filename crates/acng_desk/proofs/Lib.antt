@@ -1,7 +1,6 @@
 pub mod Changes
 pub mod Discards
 pub mod Endings
-pub mod Exacts
 pub mod HoldSteps
 pub mod Holdings
 pub mod Idles
@@ -15,9 +14,11 @@ pub mod Parks
 pub mod Removes
 pub mod Results
 pub mod Rows
+pub mod Running
 pub mod Seals
 pub mod Stamps
 pub mod Startings
+pub mod Stopped
 pub mod Stores
 pub mod Wholes
 pub mod Wholly

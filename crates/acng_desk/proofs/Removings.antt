@@ -1,5 +1,5 @@
 -- What a desk keeps where the whole body of a path was removed.
-use Rattle.std.proofs.Common.{Result, Ok, Err, OnOk, ◌≡◌, ℕ, Bool, true, false, Some, None, Option, List, is_some, cond, refl, sym, ap}
+use Rattle.std.proofs.Common.{Result, Ok, Err, OnOk, ◌≡◌, ℕ, Bool, true, false, None, Option, List, is_some, cond, sym, ap}
 use Rattle.std.proofs.Common.{subst, ◌∙◌}
 use mathlib.Core.Bool.{true≢false}
 use Rattle.std.specs.Result.{IfErr}

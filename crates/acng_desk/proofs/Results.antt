@@ -33,3 +33,7 @@ ok_both (Err e) f a b = a
 pub both_or : {T E A B C D : Type 0} (r : Result T E) → OnOk r A → OnOk r B → OnErr r C → OnErr r D → (A × B) ⊎ (C × D)
 both_or (Ok x) a b c d = inl (a, b)
 both_or (Err e) a b c d = inr (c, d)
+
+pub ok_all : {T E A : Type 0} (r : Result T E) → A → OnOk r A
+ok_all (Ok x) a = a
+ok_all (Err e) a = tt

@@ -1,24 +1,20 @@
 -- Worked rows: what a desk answers and what a ticket leaves, on literals.
-use Rattle.std.proofs.Common.{◌≡◌, ℕ, ◌-◌, ◌^◌, Bool, true, false, List, [], ◌∷◌, Some, None, Option, refl}
+use Rattle.std.proofs.Common.{◌≡◌, ℕ, ◌-◌, ◌^◌, true, false, [], ◌∷◌, Some, None, Option, refl}
 use Rattle.acng_base.specs.declared.clock.Moment.{Moment}
 use Rattle.acng_class.specs.declared.class.Class.TheVariants.{Solid, Volatile}
 use Rattle.acng_conf.specs.Settings.{Rules}
 use Rattle.acng_head.specs.declared.head.Label.TheVariants.{Fetched}
 use Rattle.acng_grow.specs.declared.facts.Facts.{Facts}
-use Rattle.acng_grow.specs.declared.facts.Seen.{Seen}
 use Rattle.acng_grow.specs.declared.facts.Stage.{Stage}
 use Rattle.acng_grow.specs.declared.facts.Stage.TheVariants as stage
 use Rattle.acng_grow.specs.declared.why.Shown.{Shown}
 use Rattle.acng_grow.specs.declared.why.Shown.TheVariants as shown
 use Rattle.acng_grow.specs.Grown.{Grown}
 use Rattle.acng_rows.specs.declared.row.Whole.{Whole}
-use Rattle.acng_rows.specs.Rows.{Row, Load}
+use Rattle.acng_rows.specs.Rows.{Row}
 use Rattle.acng_desk.specs.declared.case.Case.TheVariants as case
 use Rattle.acng_desk.specs.declared.ending.Ending.TheVariants as ending
-use Rattle.acng_desk.specs.declared.ticket.OldFile.{OldFile}
-use Rattle.acng_desk.specs.declared.ticket.PartFile.{PartFile}
 use Rattle.acng_desk.specs.House.{Parked, Spot}
-use Rattle.acng_desk.specs.declared.ticket.Info.{Info}
 use Rattle.acng_desk.specs.Tickets.{Ticketed}
 use Rattle.acng_desk.specs.Begins.{begin_case, info_of, load_of}
 use Rattle.acng_desk.specs.Settles.{end_of, whole_after, part_after}
@@ -97,7 +93,8 @@ held_though_worn = refl
 offline_and_not_held : begin_case (record (spot None) { rules = record rules { offline = true } }) Solid 1000 ≡ case.Offline
 offline_and_not_held = refl
 
-offline_at_any_age : begin_case (record (spot (holding (checked 1000))) { rules = record rules { offline = true } }) Volatile 999999 ≡ case.Keep
+offline_at_any_age : begin_case (record (spot (holding (checked 1000))) { rules = record rules { offline = true } }) Volatile 999999 ≡
+    case.Keep
 offline_at_any_age = refl
 
 offline_before_full : begin_case (record (spot None) { crowded = true; rules = record rules { offline = true } }) Solid 1000 ≡ case.Offline
@@ -112,7 +109,16 @@ joined = refl
 -- a ticket of sixteen tries from 0 on, with this whole and this partial body
 abbrev ticket : Option Whole → Option Parked → Ticketed
 ticket w part = record {
-  info = info_of [] ([] ∷ []) (at 1028) (record { row = Some (record { whole = w; out = None }); part = part; crowded = false; roomy = true; next_try = 0; next_id = 5; rules = rules });
+  info = info_of [] ([] ∷ []) (at 1028) (record {
+    row = Some (record { whole = w; out = None });
+    part = part;
+    crowded = false;
+    roomy =
+        true;
+    next_try = 0;
+    next_id = 5;
+    rules = rules;
+  });
   left = 15;
   fresh = None;
   old_body = None;
@@ -124,7 +130,16 @@ abbrev out : Option Whole → Option Parked → Spot
 out w part = record {
   row = Some (record {
     whole = w;
-    out = Some (load_of (record { row = Some (record { whole = w; out = None }); part = part; crowded = false; roomy = true; next_try = 0; next_id = 5; rules = rules }));
+    out = Some (load_of (record {
+      row = Some (record { whole = w; out = None });
+      part = part;
+      crowded = false;
+      roomy = true;
+      next_try =
+          0;
+      next_id = 5;
+      rules = rules;
+    }));
   });
   part = None;
   crowded = false;
@@ -168,10 +183,12 @@ without_a_tag = refl
 without_a_byte : end_of (out None None) (ticket None None) (body stage.Cut tagged 0 (Some (shown.Origin 0))) ≡ ending.Drop
 without_a_byte = refl
 
-after_a_slip : end_of (out None None) (ticket None None) (body stage.Cut tagged 2 (Some (shown.Keeper (record { call = 7; attempt = 0 })))) ≡ ending.Drop
+after_a_slip : end_of (out None None) (ticket None None) (body stage.Cut tagged 2 (Some (shown.Keeper (record { call = 7; attempt = 0 }))))
+    ≡ ending.Drop
 after_a_slip = refl
 
-the_65th : end_of (record (out None None) { roomy = false }) (ticket None None) (body stage.Cut tagged 2 (Some (shown.Origin 0))) ≡ ending.Drop
+the_65th : end_of (record (out None None) { roomy = false }) (ticket None None) (body stage.Cut tagged 2 (Some (shown.Origin 0))) ≡
+    ending.Drop
 the_65th = refl
 
 -- an old body that is still the file
@@ -189,7 +206,23 @@ same_as : whole_after ending.Same (out (Some (checked 1000)) None) (ticket (Some
 same_as = refl
 
 -- an import came meanwhile
-same_of_another : end_of (record (out (Some (checked 1000)) None) { row = Some (record { whole = Some (record (checked 1010) { id = 9 }); out = Some (load_of (record { row = holding (checked 1000); part = None; crowded = false; roomy = true; next_try = 0; next_id = 5; rules = rules })) }) })
+same_of_another : end_of (record (out (Some (checked 1000)) None) {
+  row =
+      Some (record {
+        whole = Some (record (checked 1010) { id = 9 });
+        out =
+            Some (load_of (record {
+              row = holding (checked 1000);
+              part = None;
+              crowded = false;
+              roomy = true;
+              next_try = 0;
+              next_id = 5;
+              rules =
+                  rules;
+            }));
+      });
+})
     (ticket (Some (checked 1000)) None) same_body ≡ ending.Drop
 same_of_another = refl
 
@@ -211,7 +244,10 @@ nothing_to_go_back : end_of (out None None) (ticket None None) refused ≡ endin
 nothing_to_go_back = refl
 
 -- another ticket than the one that is out, and none
-another : end_of (record (out None None) { row = Some (record { whole = None; out = Some (record { first = 16; fresh = 5; part = None; was = None }) }) })
+another : end_of (record (out None None) {
+  row =
+      Some (record { whole = None; out = Some (record { first = 16; fresh = 5; part = None; was = None }) });
+})
     (ticket None None) (body stage.Whole untagged 3 None) ≡ ending.Unknown
 another = refl
 

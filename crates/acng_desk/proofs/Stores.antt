@@ -1,21 +1,17 @@
 -- What the keeper has of a desk, where heads and bodies stay.
-use Rattle.std.proofs.Common.{◌≡◌, ◌≢◌, ◌==◌, ℕ, ◌+◌, ◌<◌, ◌≤◌, Bool, true, false, List, Some, None, Option, is_some, cond, unwrap_or, refl, sym, ap, subst, ◌∙◌, arith}
-use Rattle.std.specs.Option.{option_map}
-use mathlib.Core.Bool.{true≢false}
+use Rattle.std.proofs.Common.{◌≡◌, ◌≢◌, ◌==◌, ℕ, ◌+◌, ◌≤◌, Bool, true, false, List, Some, is_some, cond, refl}
+use Rattle.std.proofs.Common.{sym, ap, subst, ◌∙◌, arith}
 use Rattle.std.specs.FinMap as map
 use Rattle.std.specs.Cmp.{nat_cmp_total, unsigned_tied}
 use Rattle.acng_site.specs.declared.site.Site.{Ghosts as SiteGhosts}
 use Rattle.acng_head.specs.declared.head.Head.{Head}
-use Rattle.acng_head.specs.Records.{IsHead, record_text}
+use Rattle.acng_head.specs.Records.{record_text}
 use Rattle.acng_keeper.specs.Kept.{Kept, Stored, stored, with_loose, IdsBelow as KeysBelow}
 use Rattle.acng_keeper.specs.Slips.{Faults}
 use Rattle.acng_grow.specs.Faithful.{IsHeldAs, IsFaithful}
-use Rattle.acng_rows.specs.declared.row.Whole.{Whole}
-use Rattle.acng_rows.specs.Rows.{Rows, Load, whole_at, out_at}
 use Rattle.acng_rows.specs.Goods.{Holds}
-use Rattle.acng_desk.specs.House.{Parked, Parts, Plain, House, spot_at}
-use Rattle.acng_desk.specs.Keeps.{Role, Held, Fresh, Carried, Resting, id_at, AreLoose, IsKept, IsPlain, IsSound}
-use Rattle.acng_desk.specs.Begins.{led, led_row, is_full}
+use Rattle.acng_desk.specs.House.{Plain, House}
+use Rattle.acng_desk.specs.Keeps.{IsKept, IsSound}
 
 held_same : (k l : Kept) (id : ℕ) (h : Head) (text : List ℕ) → stored l ≡ stored k → IsHeldAs l id h text → IsHeldAs k id h text
 held_same k l id h text same g = record {
@@ -25,7 +21,8 @@ held_same k l id h text same g = record {
   size = g.size;
 }
 
-pub faithful_same : {S : Type 0} (s : SiteGhosts S) (k l : Kept) → stored l ≡ stored k → ((id : ℕ) → map.contains_key k.heads id ≡ true → map.contains_key l.loose id ≡ map.contains_key k.loose id)
+pub faithful_same : {S : Type 0} (s : SiteGhosts S) (k l : Kept) → stored l ≡ stored k
+    → ((id : ℕ) → map.contains_key k.heads id ≡ true → map.contains_key l.loose id ≡ map.contains_key k.loose id)
     → IsFaithful s k → IsFaithful s l
 faithful_same s k l same loose f = record {
   body = λ id h text g. f.body id h text (held_same k l id h text same g);
@@ -36,14 +33,16 @@ faithful_same s k l same loose f = record {
 }
 
 -- a call without an effect, by which no unsealed body came
-pub kept_same : {S : Type 0} (s : SiteGhosts S) (p : Plain) (k l : Kept) → stored l ≡ stored k → l.loose ≡ k.loose → IsKept s p k → IsKept s p l
+pub kept_same : {S : Type 0} (s : SiteGhosts S) (p : Plain) (k l : Kept) → stored l ≡ stored k → l.loose ≡ k.loose → IsKept s p k
+    → IsKept s p l
 kept_same s p k l same loose a = record {
   holds = subst (Holds p.rows) (sym same) a.holds;
   loose = record { each = λ path r id not at. ap (λ m. map.contains_key m id) loose ∙ a.loose.each path r id not at };
   faithful = faithful_same s k l same (λ id has. ap (λ m. map.contains_key m id) loose) a.faithful;
 }
 
-pub sound_same : {S : Type 0} (s : SiteGhosts S) (tells : Bool) (p : Plain) (k l : Kept) (f g : Faults) → (tells ≡ true → stored l ≡ stored k) → (tells ≡ true → l.loose ≡ k.loose)
+pub sound_same : {S : Type 0} (s : SiteGhosts S) (tells : Bool) (p : Plain) (k l : Kept) (f g : Faults)
+    → (tells ≡ true → stored l ≡ stored k) → (tells ≡ true → l.loose ≡ k.loose)
     → IsSound s tells (record { plain = p; kept = k; faults = f }) → IsSound s tells (record { plain = p; kept = l; faults = g })
 sound_same s tells p k l f g same loose a = record {
   told = a.told;
@@ -77,7 +76,8 @@ module _ (k l : Kept) (new : ℕ) (is : l ≡ with_loose new k) where
   new_loose = let e : (new == new) ≡ true = grind arith in loose_by new ∙ ap (λ b. is_some (cond b (Some tt) (map.get k.loose new))) e
 
   pub other_loose : (id : ℕ) → id ≢ new → map.contains_key l.loose id ≡ map.contains_key k.loose id
-  other_loose id not = let e : (id == new) ≡ false = grind (arith, not) in loose_by id ∙ ap (λ b. is_some (cond b (Some tt) (map.get k.loose id))) e
+  other_loose id not = let e : (id == new) ≡ false = grind (arith, not) in loose_by id
+      ∙ ap (λ b. is_some (cond b (Some tt) (map.get k.loose id))) e
 
   pub made_faithful : {S : Type 0} (s : SiteGhosts S) → KeysBelow new k.heads → IsFaithful s k → IsFaithful s l
   made_faithful s below f = faithful_same s k l (ap stored is)

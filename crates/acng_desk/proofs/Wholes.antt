@@ -1,9 +1,9 @@
 -- What is known of a whole body that a desk holds.
-use Rattle.std.proofs.Common.{◌≡◌, ℕ, ◌<◌, ◌≤◌, Bool, true, false, List, length, Some, None, Option, IfSome, is_some, refl, sym, ap, subst, ◌∙◌, unwrap_or, arith}
+use Rattle.std.proofs.Common.{◌≡◌, ℕ, ◌<◌, Bool, true, List, Some, None, Option, IfSome, is_some, refl, sym, ap, subst}
+use Rattle.std.proofs.Common.{◌∙◌, unwrap_or}
 use Rattle.std.specs.Option.{option_map}
 use mathlib.Core.Bool.{true≢false}
 use Rattle.std.specs.FinMap as map
-use Rattle.acng_base.specs.Tags.{is_tag}
 use Rattle.acng_site.specs.declared.site.Site.{Ghosts as SiteGhosts}
 use Rattle.acng_head.specs.declared.head.Head.{Head}
 use Rattle.acng_head.specs.declared.head.Label.{Label}
@@ -12,15 +12,15 @@ use Rattle.acng_head.specs.Records.{IsHead, IsBoundedLabel}
 use Rattle.acng_keeper.specs.Kept.{Kept, stored}
 use Rattle.acng_keeper.specs.Handles.{Handle}
 use Rattle.acng_grow.specs.declared.facts.Facts.{Facts}
-use Rattle.acng_grow.specs.Faithful.{IsHeldAs, held_facts}
+use Rattle.acng_grow.specs.Faithful.{IsHeldAs}
 use Rattle.acng_grow.specs.Keeps.{IsBounded, IsDated}
 use Rattle.acng_grow.specs.Stands.{StandsWhole, FactsStand}
 use Rattle.acng_rows.specs.declared.row.Whole.{Whole}
-use Rattle.acng_rows.specs.Rows.{Rows, head_of, whole_at}
-use Rattle.acng_rows.specs.Goods.{IsGood, HeldAs, Core, core_of}
+use Rattle.acng_rows.specs.Rows.{head_of, whole_at}
+use Rattle.acng_rows.specs.Goods.{IsGood, HeldAs, Core}
 use Rattle.acng_desk.specs.declared.ticket.OldFile.{OldFile}
-use Rattle.acng_desk.specs.House.{House, facts_of, facts_by}
-use Rattle.acng_desk.specs.Keeps.{IsSound, IsKept}
+use Rattle.acng_desk.specs.House.{House, facts_by}
+use Rattle.acng_desk.specs.Keeps.{IsSound}
 use Rattle.acng_desk.specs.Tickets.{IsOld, IsOldBody, old_of}
 use Rattle.acng_desk.specs.Begins.{IsHandleOf}
 

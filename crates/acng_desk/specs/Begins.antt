@@ -1,6 +1,6 @@
 -- How a desk lets a call in.
 use Rattle.std.specs.Prelude.{◌≡◌, ℕ, ◌+◌, ◌-◌, ◌^◌, Bool, true, false, not, ◌&&◌, ◌||◌, cond, nat_le, nat_lt, List}
-use Rattle.std.specs.Prelude.{is_some, Option, None, Some, option_map, IfSome, ⊤}
+use Rattle.std.specs.Prelude.{is_some, Option, None, Some, option_map, ⊤}
 use Rattle.std.specs.FinMap as map
 use Rattle.acng_base.specs.declared.clock.Moment.{Moment}
 use Rattle.acng_class.specs.declared.class.Class.{Class}

@@ -1,5 +1,5 @@
 -- A desk as contracts see it: what it knows, and what its keeper has.
-use Rattle.std.specs.Prelude.{ℕ, ◌==◌, Bool, nat_le, nat_lt, List, Option, None, Some, option_map}
+use Rattle.std.specs.Prelude.{ℕ, Bool, nat_le, nat_lt, List, Option, None, Some}
 use Rattle.std.specs.FinMap as map
 use Rattle.acng_head.specs.declared.head.Label.{Label}
 use Rattle.acng_head.specs.declared.head.Label.TheVariants.{Fetched, Imported}

@@ -1,5 +1,5 @@
 -- How an import is put.
-use Rattle.std.specs.Prelude.{◌≡◌, ◌⊎◌, ◌<◌, ◌≤◌, ◌^◌, ℕ, Bool, true, false, List, Some, ⊤}
+use Rattle.std.specs.Prelude.{◌≡◌, ℕ, true, List, Some, ⊤}
 use Rattle.std.specs.FinMap as map
 use Rattle.acng_base.specs.declared.hash.Hash.{Hash}
 use Rattle.acng_keeper.specs.Kept.{Kept}

@@ -5,7 +5,9 @@ pub mod Commands
 pub mod House
 pub mod Imports
 pub mod Keeps
+pub mod Laws
 pub mod Looks
 pub mod Settles
 pub mod Starts
+pub mod Stops
 pub mod Tickets

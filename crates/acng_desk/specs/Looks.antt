@@ -1,5 +1,4 @@
 -- What a desk tells of a path.
-use Rattle.std.specs.Prelude.{ℕ}
 use Rattle.acng_rows.specs.declared.row.Whole.{Whole}
 use Rattle.acng_desk.specs.declared.looks.RowFacts.{RowFacts}
 use Rattle.acng_desk.specs.House.{facts_of}

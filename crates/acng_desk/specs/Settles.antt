@@ -5,7 +5,6 @@ use Rattle.std.specs.FinMap as map
 use Rattle.acng_base.specs.declared.clock.Moment.{Moment}
 use Rattle.acng_head.specs.declared.head.Label.{Label}
 use Rattle.acng_head.specs.declared.head.Label.TheVariants.{Fetched, Imported}
-use Rattle.acng_keeper.specs.Handles.{Handle}
 use Rattle.acng_keeper.specs.Slips.{Faults, HasFailed}
 use Rattle.acng_site.specs.declared.site.Site.{Ghosts as SiteGhosts}
 use Rattle.acng_site.specs.Honest.{heard}
@@ -27,7 +26,7 @@ use Rattle.acng_desk.specs.declared.settle.Settled.{Settled}
 use Rattle.acng_desk.specs.declared.settle.Settled.TheVariants as settled
 use Rattle.acng_desk.specs.declared.ticket.OldFile.{OldFile}
 use Rattle.acng_desk.specs.declared.ticket.PartFile.{PartFile}
-use Rattle.acng_desk.specs.House.{Parked, Parts, Plain, House, Spot, spot_at}
+use Rattle.acng_desk.specs.House.{Parked, Parts, Plain, Spot, spot_at}
 use Rattle.acng_desk.specs.declared.ticket.Info.{Info}
 use Rattle.acng_desk.specs.Tickets.{Ticketed, errand_of}
 

@@ -1,12 +1,10 @@
 -- A ticket, as contracts see it, and what it keeps.
 use Rattle.std.specs.Prelude.{◌≡◌, ℕ, ◌-◌, ◌<◌, ◌≤◌, ◌^◌, Bool, true, false, List, [], length, All, Option, None, Some, option_map}
-use Rattle.std.specs.Prelude.{is_some, IfSome, IsSomeAnd, ⊤}
-use Rattle.acng_base.specs.declared.clock.Moment.{Moment}
+use Rattle.std.specs.Prelude.{is_some, IfSome, IsSomeAnd}
 use Rattle.acng_head.specs.declared.head.Label.{Label}
 use Rattle.acng_head.specs.declared.head.Label.TheVariants.{Fetched, Imported}
 use Rattle.acng_keeper.specs.Handles.{Handle}
 use Rattle.acng_site.specs.declared.site.Site.{Ghosts as SiteGhosts}
-use Rattle.acng_grow.specs.declared.facts.Facts.{Facts}
 use Rattle.acng_grow.specs.declared.settling.PartialBody.{PartialBody}
 use Rattle.acng_grow.specs.Effects.{Part, Old, Errand}
 use Rattle.acng_grow.specs.Keeps.{IsBounded, IsDated, IsFetched, HasRoom, most_bytes}

@@ -5,7 +5,7 @@
 ghost use Rattle.std.specs.Prelude.{◌≡◌, ◌≢◌, ◌<◌, true, false, All, length, is_some, option_copied, IfOk, IfErr};
 ghost use Rattle.acng_class.specs.declared.class.Class.TheVariants.{Forbidden};
 ghost use Rattle.acng_keeper.specs.Kept.{with_taken};
-ghost use Rattle.acng_keeper.specs.Slips.{SlipRose, Later};
+ghost use Rattle.acng_keeper.specs.Slips.{SlipRose, Later, none_yet};
 ghost use Rattle.acng_rows.specs.Rows.{whole_at, out_at, whole_in, out_in};
 ghost use Rattle.acng_desk.specs.House.{spot_at};
 ghost use Rattle.acng_desk.specs.Begins.{begin_case, is_solid, is_fresh, keeps, let_in, entry_of, BegunAs, KeptAs, JoinedAs, HasRested};
@@ -168,6 +168,7 @@ impl<S: Site, K: Keeper, T: Joint> Desk<S, K, T> {
         ensures holds { IfOk result (λ held. HoldsRow K.Body.handle K.tells self.old.kept (whole_at self.old.plain.rows path.now) held) }
         ensures stands { IfOk result (λ held. IsHeld S.Site K.Body.handle K.tells path.now held) }
         ensures taken { IfOk result (λ held. K.tells ≡ true → self.new.kept ≡ with_taken held.size self.old.kept) }
+        ensures unfailed { IfOk result (λ held. K.Body.faults held.body ≡ none_yet self.old.faults.may_fail) }
         ensures plain { self.new.plain ≡ self.old.plain }
         ensures rests { K.tells ≡ true → HasRested self.old.kept self.new.kept }
         ensures cause { IfErr result (λ e. SlipRose e self.old.faults self.new.faults) }

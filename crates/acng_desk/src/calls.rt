@@ -1,14 +1,15 @@
 //! The calls of expiration and import: a whole body is fetched, marked or removed, and a body is made or dropped.
-ghost use Rattle.std.specs.Prelude.{◌≡◌, ◌≢◌, true, None, Some, IfOk, IfErr, OnOk, OnErr, is_some};
+ghost use Rattle.std.specs.Prelude.{◌≡◌, ◌≢◌, true, false, None, Some, IfOk, IfErr, OnOk, OnErr, is_some};
 ghost use Rattle.acng_keeper.specs.Handles.{fresh};
-ghost use Rattle.acng_keeper.specs.Kept.{with_taken};
-ghost use Rattle.acng_keeper.specs.Slips.{SlipRose, Later};
+ghost use Rattle.acng_keeper.specs.Kept.{has_body, with_taken};
+ghost use Rattle.acng_keeper.specs.Slips.{SlipRose, Later, none_yet};
 ghost use Rattle.acng_rows.specs.Calls.{RowRose};
 ghost use Rattle.acng_rows.specs.Rows.{whole_at};
 ghost use Rattle.acng_desk.specs.Begins.{IsHeld, HoldsAs, HasRested};
 ghost use Rattle.acng_desk.specs.Calls.{HoldsRow, PutRose, IsSpare, put_result};
 ghost use Rattle.acng_desk.specs.Commands.{SetMark, NewBody, step};
 ghost use Rattle.acng_desk.specs.Keeps.{IsNobodys};
+ghost use Rattle.acng_desk.specs.Stops.{StopsAt, IsFound, KeepsFiles};
 
 use crate::desk::Desk;
 use crate::entry::Held;
@@ -53,8 +54,10 @@ impl<S: Site, K: Keeper, T: Joint> Desk<S, K, T> {
     ) -> Result<(), RowFault<SlipOf<K>>>
         ensures plain { OnOk result (self.new.plain ≡ step (SetMark path.now mark) self.old.plain) }
         ensures there { OnOk result (is_some (whole_at self.old.plain.rows path.now) ≡ true) }
+        ensures exact { OnOk result (K.tells ≡ true → IsFound self.old → IsFound self.new) }
 
-        // A refusal, and what it leaves.
+        // A stop at any moment, a refusal, and what they leave.
+        ensures stops { K.tells ≡ true → StopsAt S.Site (step (SetMark path.now mark) self.old.plain).rows self.old self.new }
         ensures same { OnErr result (self.new.plain ≡ self.old.plain) }
         ensures cause { IfErr result (λ e. RowRose e (whole_at self.old.plain.rows path.now) self.old.faults self.new.faults) }
         ensures later { Later self.old.faults self.new.faults }
@@ -71,6 +74,7 @@ impl<S: Site, K: Keeper, T: Joint> Desk<S, K, T> {
         ensures held { IfOk result (λ held. HoldsRow K.Body.handle K.tells self.old.kept (whole_at self.old.plain.rows path.now) held) }
         ensures stands { IfOk result (λ held. IsHeld S.Site K.Body.handle K.tells path.now held) }
         ensures taken { IfOk result (λ held. K.tells ≡ true → self.new.kept ≡ with_taken held.size self.old.kept) }
+        ensures unfailed { IfOk result (λ held. K.Body.faults held.body ≡ none_yet self.old.faults.may_fail) }
 
         // A refusal, and what it leaves.
         ensures cause { IfErr result (λ e. RowRose e (whole_at self.old.plain.rows path.now) self.old.faults self.new.faults) }
@@ -102,6 +106,7 @@ impl<S: Site, K: Keeper, T: Joint> Desk<S, K, T> {
         ensures id { IfOk result (λ r. r.0.0 ≡ self.old.plain.next_id) }
         ensures body { IfOk result (λ r. K.Body.handle r.1 ≡ fresh self.old.plain.next_id) }
         ensures spare { IfOk result (λ r. IsSpare K.tells self.new r.0.0) }
+        ensures unfailed { IfOk result (λ r. K.Body.faults r.1 ≡ none_yet self.old.faults.may_fail) }
         ensures plain { OnOk result (self.new.plain ≡ step NewBody self.old.plain) }
 
         // A refusal, and what it leaves.
@@ -126,7 +131,9 @@ impl<S: Site, K: Keeper, T: Joint> Desk<S, K, T> {
     ) -> Result<(), KeepFault<SlipOf<K>>>
         requires number { (K.Body.handle body).number ≡ id.0 }
         requires nobodys { IsNobodys self.old.plain.rows self.old.plain.parts id.0 }
+        ensures gone { OnOk result (K.tells ≡ true → has_body self.new.kept id.0 ≡ false) }
         ensures plain { self.new.plain ≡ self.old.plain }
+        ensures files { K.tells ≡ true → KeepsFiles S.Site self.old self.new }
         ensures later { Later self.old.faults self.new.faults }
         ensures cause { IfErr result (λ e. SlipRose e self.old.faults self.new.faults) }
     {

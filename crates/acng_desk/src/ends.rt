@@ -17,6 +17,7 @@ ghost use Rattle.acng_desk.specs.House.{parked_of, most_parts};
 ghost use Rattle.acng_desk.specs.Keeps.{IsParked, IsNobodys};
 ghost use Rattle.acng_desk.specs.Tickets.{IsTicket};
 ghost use Rattle.acng_desk.specs.Settles.{is_out, part_id, left_with, new_in, parked_in, grown_after, FellTo, IsOwn, IsAmong};
+ghost use Rattle.acng_desk.specs.Stops.{StopsAt, IsFound, KeepsFiles};
 
 use crate::desk::Desk;
 use crate::joint::Joint;
@@ -52,9 +53,14 @@ pub(crate) fn spend<S: Site, F: BodyFile>(ticket: Ticket<S, F>) -> Spent<F>
 
 impl<S: Site, K: Keeper, T: Joint> Desk<S, K, T> {
     // A body that is nobody's, where there is one, is removed.
-    fn discard_body(&mut self, alloc: Global, id: Option<u64>) -> Result<(), KeepFault<SlipOf<K>>>
+    pub(crate) fn discard_body(
+        &mut self,
+        alloc: Global,
+        id: Option<u64>,
+    ) -> Result<(), KeepFault<SlipOf<K>>>
         requires nobodys { IfSome id (IsNobodys self.old.plain.rows self.old.plain.parts) }
         ensures plain { self.new.plain ≡ self.old.plain }
+        ensures files { K.tells ≡ true → KeepsFiles S.Site self.old self.new }
         ensures later { Later self.old.faults self.new.faults }
         ensures cause { IfErr result (λ e. SlipRose e self.old.faults self.new.faults) }
     {
@@ -73,6 +79,7 @@ impl<S: Site, K: Keeper, T: Joint> Desk<S, K, T> {
         requires out { is_out (out_at self.old.plain.rows info.now.path) info.now ≡ true }
         ensures plain { self.new.plain ≡
             left_with info.now.path (whole_at self.old.plain.rows info.now.path) None self.old.plain }
+        ensures files { K.tells ≡ true → KeepsFiles S.Site self.old self.new }
         ensures later { Later self.old.faults self.new.faults }
         ensures cause { IfErr result (λ e. SlipRose e self.old.faults self.new.faults) }
     {
@@ -114,6 +121,7 @@ impl<S: Site, K: Keeper, T: Joint> Desk<S, K, T> {
             (Some (parked_of K.Body.handle part)) self.old.plain) }
         ensures fell { OnErr result (FellTo info.now.path (whole_at self.old.plain.rows info.now.path)
             (Some (parked_of K.Body.handle part)) self.old.plain self.new.plain) }
+        ensures files { K.tells ≡ true → KeepsFiles S.Site self.old self.new }
         ensures later { Later self.old.faults self.new.faults }
         ensures cause { IfErr result (λ e. SlipRose e self.old.faults self.new.faults) }
     {
@@ -145,6 +153,7 @@ impl<S: Site, K: Keeper, T: Joint> Desk<S, K, T> {
             (parked_in body.old.file body.old.seen.url body.old.seen.label body.old.seen.facts) self.old.plain) }
         ensures fell { OnErr result (FellTo info.now.path (whole_at self.old.plain.rows info.now.path)
             (parked_in body.old.file body.old.seen.url body.old.seen.label body.old.seen.facts) self.old.plain self.new.plain) }
+        ensures files { K.tells ≡ true → KeepsFiles S.Site self.old self.new }
         ensures body { body.new ≡ grown_after ending.Park body.old }
         ensures later { Later self.old.faults self.new.faults }
         ensures cause { IfErr result (λ e. SlipRose e self.old.faults self.new.faults) }
@@ -172,6 +181,10 @@ impl<S: Site, K: Keeper, T: Joint> Desk<S, K, T> {
             (stamped_in (Checked info.now.moment) (whole_at self.old.plain.rows info.now.path)) None self.old.plain) }
         ensures fell { OnErr result (FellTo info.now.path
             (stamped_in (Checked info.now.moment) (whole_at self.old.plain.rows info.now.path)) None self.old.plain self.new.plain) }
+        ensures stops { K.tells ≡ true → StopsAt S.Site (left_with info.now.path
+            (stamped_in (Checked info.now.moment) (whole_at self.old.plain.rows info.now.path)) None self.old.plain).rows
+            self.old self.new }
+        ensures exact { OnOk result (K.tells ≡ true → IsFound self.old → IsFound self.new) }
         ensures later { Later self.old.faults self.new.faults }
         ensures cause { IfErr result (λ e. RowRose e (whole_at self.old.plain.rows info.now.path) self.old.faults self.new.faults) }
     {
@@ -179,6 +192,7 @@ impl<S: Site, K: Keeper, T: Joint> Desk<S, K, T> {
             self.close(&info.path);
             return Err(fault);
         }
+        self.keeps();
         match self.drop_load(alloc, info) {
             Ok(()) => Ok(()),
             Err(fault) => Err(RowFault::of(fault)),
@@ -201,6 +215,10 @@ impl<S: Site, K: Keeper, T: Joint> Desk<S, K, T> {
             (new_in info.now.moment (number_of body.old) body.old.seen.label body.old.seen) None self.old.plain) }
         ensures fell { OnErr result (FellTo info.now.path
             (new_in info.now.moment (number_of body.old) body.old.seen.label body.old.seen) None self.old.plain self.new.plain) }
+        ensures stops { K.tells ≡ true → StopsAt S.Site (left_with info.now.path
+            (new_in info.now.moment (number_of body.old) body.old.seen.label body.old.seen) None self.old.plain).rows
+            self.old self.new }
+        ensures exact { OnOk result (K.tells ≡ true → IsFound self.old → IsFound self.new) }
         ensures body { (body.new ≡ body.old) ⊎ (body.new ≡ grown_after ending.Keep body.old) }
         ensures closed { OnOk result (body.new ≡ grown_after ending.Keep body.old) }
         ensures later { Later self.old.faults self.new.faults }
@@ -214,6 +232,7 @@ impl<S: Site, K: Keeper, T: Joint> Desk<S, K, T> {
         };
         let other = other_than(info, whole.id);
         self.hold(alloc, &info.path, body, whole)?;
+        self.keeps();
         self.discard_body(alloc, other)
     }
 }

@@ -14,6 +14,7 @@ ghost use Rattle.acng_desk.specs.Calls.{IsSpare, put_fault};
 ghost use Rattle.acng_desk.specs.Commands.{PutImport, imported, put_in, step};
 ghost use Rattle.acng_desk.specs.Imports.{HasImport, ImportRose};
 ghost use Rattle.acng_desk.specs.Keeps.{IsNobodys};
+ghost use Rattle.acng_desk.specs.Stops.{StopsAt, IsFound, KeepsFiles};
 
 use crate::calls::PutFault;
 use crate::desk::Desk;
@@ -94,6 +95,7 @@ impl<S: Site, K: Keeper, T: Joint> Desk<S, K, T> {
         ensures plain { self.new.plain ≡ self.old.plain }
         ensures there { OnOk result (K.tells ≡ true →
             map.get self.new.kept.bodies id.0 ≡ Some (K.Body.handle body).bytes) }
+        ensures files { K.tells ≡ true → KeepsFiles S.Site self.old self.new }
         ensures cause { IfErr result (λ e. SlipRose e self.old.faults self.new.faults) }
         ensures later { Later self.old.faults self.new.faults }
     {
@@ -121,6 +123,9 @@ impl<S: Site, K: Keeper, T: Joint> Desk<S, K, T> {
         ensures plain { OnOk result (self.new.plain ≡ put_in path.now (imported id hash size now) self.old.plain) }
         ensures fell { OnErr result ((self.new.plain ≡ self.old.plain)
             ⊎ (self.new.plain ≡ put_in path.now (imported id hash size now) self.old.plain)) }
+        ensures stops { K.tells ≡ true →
+            StopsAt S.Site (put_in path.now (imported id hash size now) self.old.plain).rows self.old self.new }
+        ensures exact { OnOk result (K.tells ≡ true → IsFound self.old → IsFound self.new) }
         ensures cause { IfErr result (λ e. SlipRose e self.old.faults self.new.faults) }
         ensures later { Later self.old.faults self.new.faults }
     {
@@ -153,8 +158,11 @@ impl<S: Site, K: Keeper, T: Joint> Desk<S, K, T> {
         requires import { K.tells ≡ true → IsImport hash (K.Body.handle body).size (K.Body.handle body).bytes }
         ensures plain { OnOk result (self.new.plain ≡ step (PutImport path.now id.0 hash (K.Body.handle body).size now) self.old.plain) }
         ensures room { OnOk result (is_full (spot_at self.old.plain path.now) ≡ false) }
+        ensures exact { OnOk result (K.tells ≡ true → IsFound self.old → IsFound self.new) }
 
-        // A refusal, and what it leaves.
+        // A stop at any moment, a refusal, and what they leave.
+        ensures stops { K.tells ≡ true →
+            StopsAt S.Site (step (PutImport path.now id.0 hash (K.Body.handle body).size now) self.old.plain).rows self.old self.new }
         ensures cause { IfErr result (λ e. ImportRose e self.old.plain path.now self.old.faults self.new.faults) }
         ensures fell { OnErr result ((self.new.plain ≡ self.old.plain)
             ⊎ (self.new.plain ≡ step (PutImport path.now id.0 hash (K.Body.handle body).size now) self.old.plain)) }

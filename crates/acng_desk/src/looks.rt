@@ -1,7 +1,9 @@
 //! What a desk tells of a path without changing it.
-ghost use Rattle.std.specs.Prelude.{◌≡◌, IfOk, option_map, option_copied};
+ghost use Rattle.std.specs.Prelude.{◌≡◌, true, false, List, ℕ, None, IfOk, IfSome, IfNone, is_some, option_map, option_copied};
+ghost use Rattle.std.specs.Ordering.{nat_cmp, is_gt};
+ghost use Rattle.std.specs.Cmp.Lexicographic.{slice_cmp};
 ghost use Rattle.acng_class.specs.Classes.{class_of};
-ghost use Rattle.acng_rows.specs.Rows.{whole_at, whole_in};
+ghost use Rattle.acng_rows.specs.Rows.{whole_at, whole_in, IsAfter};
 ghost use Rattle.acng_desk.specs.Looks.{row_facts};
 
 use crate::desk::Desk;
@@ -46,6 +48,18 @@ impl<S: Site, K: Keeper, T: Joint> Desk<S, K, T> {
             }),
             None => None,
         }
+    }
+
+    /// The least path with a whole body, or the least such path after another.
+    pub fn next_path(&self, after: Option<&CachePath>) -> Option<&CachePath>
+        ensures held { IfSome result (λ p. is_some (whole_at self.now.plain.rows p.now) ≡ true) }
+        ensures after { IfSome result (λ p. IsAfter (option_copied after.entry) p.now) }
+        ensures least { IfSome result (λ p. (q : List ℕ) → IsAfter (option_copied after.entry) q →
+            is_some (whole_at self.now.plain.rows q) ≡ true → is_gt (slice_cmp nat_cmp p.now q) ≡ false) }
+        ensures none { IfNone result
+            ((q : List ℕ) → IsAfter (option_copied after.entry) q → whole_at self.now.plain.rows q ≡ None) }
+    {
+        self.rows.held_after(after)
     }
 
     /// The class of a path by the configuration.

@@ -2,20 +2,20 @@
 //!
 //! What the desk knows changes first, where nothing can fail; then the head goes, then its body, and then the partial body
 //! that rested at the path. So a refusal of the keeper leaves at most what the next start removes.
-ghost use Rattle.std.specs.Prelude.{◌≡◌, true, OnOk, IfErr, IfSome, is_some, option_map};
+ghost use Rattle.std.specs.Prelude.{◌≡◌, true, OnOk, IfErr, is_some, option_map};
 ghost use Rattle.std.specs.FinMap as map;
 ghost use Rattle.acng_keeper.specs.Slips.{SlipRose, Later};
 ghost use Rattle.acng_rows.specs.Calls.{RowRose};
 ghost use Rattle.acng_rows.specs.Rows.{whole_at};
 ghost use Rattle.acng_desk.specs.House.{Parked};
 ghost use Rattle.acng_desk.specs.Commands.{Remove, step};
-ghost use Rattle.acng_desk.specs.Keeps.{IsNobodys};
+ghost use Rattle.acng_desk.specs.Stops.{StopsAt, IsFound};
 
 use crate::desk::Desk;
 use crate::joint::Joint;
 use acng_base::CachePath;
-use acng_keeper::{BodyFile, KeepFault, Keeper, SlipOf};
-use acng_rows::{Removal, RowFault, let_go};
+use acng_keeper::{BodyFile, Keeper, SlipOf};
+use acng_rows::{RowFault, let_go};
 use acng_site::Site;
 use std::alloc::Global;
 
@@ -44,6 +44,8 @@ impl<S: Site, K: Keeper, T: Joint> Desk<S, K, T> {
     fn take_out(&mut self, alloc: Global, path: &CachePath) -> Result<(), RowFault<SlipOf<K>>>
         requires held { is_some (whole_at self.old.plain.rows path.now) ≡ true }
         ensures plain { self.new.plain ≡ step (Remove path.now) self.old.plain }
+        ensures stops { K.tells ≡ true → StopsAt S.Site (step (Remove path.now) self.old.plain).rows self.old self.new }
+        ensures exact { OnOk result (K.tells ≡ true → IsFound self.old → IsFound self.new) }
         ensures cause { IfErr result (λ e. RowRose e (whole_at self.old.plain.rows path.now) self.old.faults self.new.faults) }
         ensures later { Later self.old.faults self.new.faults }
     {
@@ -51,26 +53,15 @@ impl<S: Site, K: Keeper, T: Joint> Desk<S, K, T> {
         let_go(&mut self.keeper, alloc, &mut self.rows, path)
     }
 
-    // A partial body that was taken out is removed from the keeper, where there was one.
-    fn discard_part(&mut self, alloc: Global, id: Option<u64>) -> Result<(), KeepFault<SlipOf<K>>>
-        requires nobodys { IfSome id (IsNobodys self.old.plain.rows self.old.plain.parts) }
-        ensures plain { self.new.plain ≡ self.old.plain }
-        ensures later { Later self.old.faults self.new.faults }
-        ensures cause { IfErr result (λ e. SlipRose e self.old.faults self.new.faults) }
-    {
-        match id {
-            Some(id) => self.discard(alloc, &[Removal::Body(id)]),
-            None => Ok(()),
-        }
-    }
-
     /// Removes the whole body of a path: its head, then the body, and, unless a ticket is out, then the partial body that
     /// rests there, and the row. After a refusal of the keeper the row is as after Ok.
     pub fn remove(&mut self, alloc: Global, path: &CachePath) -> Result<(), RowFault<SlipOf<K>>>
         ensures plain { self.new.plain ≡ step (Remove path.now) self.old.plain }
         ensures there { OnOk result (is_some (whole_at self.old.plain.rows path.now) ≡ true) }
+        ensures exact { OnOk result (K.tells ≡ true → IsFound self.old → IsFound self.new) }
 
-        // When it is refused.
+        // What a stop at any moment leaves, and when it is refused.
+        ensures stops { K.tells ≡ true → StopsAt S.Site (step (Remove path.now) self.old.plain).rows self.old self.new }
         ensures cause { IfErr result (λ e. RowRose e (whole_at self.old.plain.rows path.now) self.old.faults self.new.faults) }
         ensures later { Later self.old.faults self.new.faults }
     {
@@ -80,7 +71,8 @@ impl<S: Site, K: Keeper, T: Joint> Desk<S, K, T> {
         }
         let part = self.resting_id(path);
         self.take_out(alloc, path)?;
-        match self.discard_part(alloc, part) {
+        self.keeps();
+        match self.discard_body(alloc, part) {
             Ok(()) => Ok(()),
             Err(fault) => Err(RowFault::of(fault)),
         }

@@ -1,9 +1,10 @@
 //! Settling a ticket.
-ghost use Rattle.std.specs.Prelude.{◌≡◌, ◌≢◌, ◌⊎◌, true};
+ghost use Rattle.std.specs.Prelude.{◌≡◌, ◌≢◌, ◌⊎◌, true, ⊤};
 ghost use Rattle.acng_keeper.specs.Slips.{Later};
 ghost use Rattle.acng_desk.specs.House.{spot_at};
 ghost use Rattle.acng_desk.specs.Settles.{Ends, IsLoaded, end_of, ended, grown_after, Falls, SettledAs, IfSettled};
 ghost use Rattle.acng_desk.specs.Commands.{Settle, step};
+ghost use Rattle.acng_desk.specs.Stops.{StopsAt, IsFound};
 
 use crate::desk::Desk;
 use crate::ending::Ending;
@@ -37,6 +38,8 @@ impl<S: Site, K: Keeper, T: Joint> Desk<S, K, T> {
             (body.new ≡ grown_after (end_of (spot_at self.old.plain body.old.path) ticket body.old) body.old)
             ((body.new ≡ body.old)
             ⊎ (body.new ≡ grown_after (end_of (spot_at self.old.plain body.old.path) ticket body.old) body.old)) }
+        ensures exact { IfSettled result (K.tells ≡ true → IsFound self.old → IsFound self.new) ⊤ }
+        ensures stops { K.tells ≡ true → StopsAt S.Site (step (Settle ticket body.old) self.old.plain).rows self.old self.new }
         ensures later { Later self.old.faults self.new.faults }
     {
         self.keeps();

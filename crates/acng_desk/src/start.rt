@@ -9,7 +9,7 @@ ghost use Rattle.acng_grow.specs.Faithful.{IsFaithful};
 ghost use Rattle.acng_keeper.specs.Kept.{stored};
 ghost use Rattle.acng_keeper.specs.Slips.{Later};
 ghost use Rattle.acng_rows.specs.Goods.{StandsFor};
-ghost use Rattle.acng_desk.specs.Starts.{IsStarted, StartRose, most_rows, cause_of};
+ghost use Rattle.acng_desk.specs.Starts.{IsStarted, ClearsOnly, StartRose, most_rows, cause_of};
 
 use crate::desk::Desk;
 use crate::joint::Joint;
@@ -74,6 +74,7 @@ impl<S: Site, K: Keeper, T: Joint> Desk<S, K, T> {
         ensures cause { IfErr result (λ e. StartRose K.tells (K.kept keeper) rows (K.faults keeper) (K.faults e.keeper) e.cause) }
         ensures later { IfErr result (λ e. Later (K.faults keeper) (K.faults e.keeper)) }
         ensures still { K.tells ≡ true → IfErr result (λ e. IsFaithful S.Site (K.kept e.keeper)) }
+        ensures stops { K.tells ≡ true → IfErr result (λ e. ClearsOnly (K.kept keeper) (K.kept e.keeper)) }
     {
         let mut keeper = keeper;
         let mut right = right;

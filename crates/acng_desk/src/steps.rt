@@ -2,18 +2,19 @@
 ghost use Rattle.std.specs.Prelude.{◌≡◌, ◌<◌, ◌^◌, true, IfErr, OnOk, OnErr, is_some, IfSome, None, Some};
 ghost use Rattle.std.specs.FinMap as map;
 ghost use Rattle.acng_base.specs.Tags.{is_tag};
+ghost use Rattle.acng_keeper.specs.Images.{changed};
 ghost use Rattle.acng_keeper.specs.Kept.{stored};
-ghost use Rattle.acng_keeper.specs.Images.{IsAlong, LeavesOnly};
 ghost use Rattle.acng_keeper.specs.Slips.{SlipRose, Later};
 ghost use Rattle.acng_rows.specs.Calls.{RowRose};
+ghost use Rattle.acng_rows.specs.Removals.{effects_of, loose_by};
 ghost use Rattle.acng_rows.specs.Rows.{whole_at, out_at, restamped};
-ghost use Rattle.acng_rows.specs.Removals.{effects_of};
 ghost use Rattle.acng_rows.specs.Starts.{NamesBelow};
 ghost use Rattle.acng_grow.specs.declared.facts.Stage.TheVariants as stage;
 ghost use Rattle.acng_grow.specs.Grown.{number_of, closed_file};
 ghost use Rattle.acng_desk.specs.House.{parked_of, most_parts};
 ghost use Rattle.acng_desk.specs.Keeps.{AreNobodys, IsParked};
 ghost use Rattle.acng_desk.specs.Settles.{left_with, new_in, FellTo, HasOwn};
+ghost use Rattle.acng_desk.specs.Stops.{StopsAt, IsFound, KeepsFiles};
 
 use crate::desk::Desk;
 use crate::joint::Joint;
@@ -44,8 +45,10 @@ impl<S: Site, K: Keeper, T: Joint> Desk<S, K, T> {
     ) -> Result<(), KeepFault<SlipOf<K>>>
         requires nobodys { AreNobodys self.old.plain.rows self.old.plain.parts list.now }
         ensures plain { self.new.plain ≡ self.old.plain }
-        ensures stops { K.tells ≡ true →
-            LeavesOnly (IsAlong (effects_of list.now) (stored self.old.kept)) self.old.kept self.new.kept }
+        ensures stored { OnOk result (K.tells ≡ true →
+            stored self.new.kept ≡ changed (effects_of list.now) (stored self.old.kept)) }
+        ensures loose { OnOk result (K.tells ≡ true → self.new.kept.loose ≡ loose_by (effects_of list.now) self.old.kept.loose) }
+        ensures files { K.tells ≡ true → KeepsFiles S.Site self.old self.new }
         ensures later { Later self.old.faults self.new.faults }
         ensures cause { IfErr result (λ e. SlipRose e self.old.faults self.new.faults) }
     {
@@ -96,6 +99,9 @@ impl<S: Site, K: Keeper, T: Joint> Desk<S, K, T> {
         ensures body { body.new ≡ closed_file body.old }
         ensures plain { OnOk result (self.new.plain ≡ left_with path.now (Some whole) None self.old.plain) }
         ensures fell { OnErr result (FellTo path.now (Some whole) None self.old.plain self.new.plain) }
+        ensures stops { K.tells ≡ true →
+            StopsAt S.Site (left_with path.now (Some whole) None self.old.plain).rows self.old self.new }
+        ensures exact { OnOk result (K.tells ≡ true → IsFound self.old → IsFound self.new) }
         ensures later { Later self.old.faults self.new.faults }
         ensures cause { IfErr result (λ e. SlipRose e self.old.faults self.new.faults) }
     {
@@ -121,6 +127,8 @@ impl<S: Site, K: Keeper, T: Joint> Desk<S, K, T> {
             record self.old.plain { rows = restamped stamp self.old.plain.rows path.now }) }
         ensures there { OnOk result (is_some (whole_at self.old.plain.rows path.now) ≡ true) }
         ensures same { OnErr result (self.new.plain ≡ self.old.plain) }
+        ensures stops { K.tells ≡ true → StopsAt S.Site (restamped stamp self.old.plain.rows path.now) self.old self.new }
+        ensures exact { OnOk result (K.tells ≡ true → IsFound self.old → IsFound self.new) }
         ensures later { Later self.old.faults self.new.faults }
         ensures cause { IfErr result (λ e. RowRose e (whole_at self.old.plain.rows path.now) self.old.faults self.new.faults) }
     {

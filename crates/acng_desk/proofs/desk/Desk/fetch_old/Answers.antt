@@ -1,4 +1,4 @@
-use Rattle.std.proofs.Common.{◌≡◌, sym, subst, ap, ◌∙◌, true, Some, None, Option}
+use Rattle.std.proofs.Common.{◌≡◌, sym, subst, ap, ◌∙◌}
 use Rattle.std.specs.Option.{option_map}
 use Rattle.acng_keeper.specs.Kept.{Kept, stored}
 use Rattle.acng_rows.specs.Rows.{whole_at}
@@ -17,9 +17,11 @@ fetch_body-requires g c = λ tells.
 pub invariant_of-self-then-len-was : goal.invariant_of-self-then-len-was
 invariant_of-self-then-len-was g c = sound_next _ _ _ (g.K.Keeper.kept c.fetch_body.new.self) (g.K.Keeper.faults c.fetch_body.new.self)
     (g.K.Keeper.next c.fetch_body.new.self) c.fetch_body.ensures.same_next
-    (λ tells. ap stored (c.in_ok-body.ensures.taken tells)) (λ tells. ap (λ (k : Kept). k.loose) (c.in_ok-body.ensures.taken tells)) c.self.invariant
+    (λ tells. ap stored (c.in_ok-body.ensures.taken tells)) (λ tells. ap (λ (k : Kept). k.loose) (c.in_ok-body.ensures.taken tells))
+    c.self.invariant
 
 pub invariant_of-self-2 : goal.invariant_of-self-2
 invariant_of-self-2 g c = sound_next _ _ _ (g.K.Keeper.kept c.fetch_body.new.self) (g.K.Keeper.faults c.fetch_body.new.self)
     (g.K.Keeper.next c.fetch_body.new.self) c.fetch_body.ensures.same_next
-    (λ tells. ap stored (c.in_ok-body.ensures.taken tells)) (λ tells. ap (λ (k : Kept). k.loose) (c.in_ok-body.ensures.taken tells)) c.self.invariant
+    (λ tells. ap stored (c.in_ok-body.ensures.taken tells)) (λ tells. ap (λ (k : Kept). k.loose) (c.in_ok-body.ensures.taken tells))
+    c.self.invariant

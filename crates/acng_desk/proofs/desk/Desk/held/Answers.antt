@@ -1,9 +1,8 @@
-use Rattle.std.proofs.Common.{◌≡◌, ap, subst, sym, ◌∙◌, is_some, true, Some, None, Option}
+use Rattle.std.proofs.Common.{◌≡◌, ap, subst, sym, ◌∙◌}
 use Rattle.acng_keeper.specs.Handles.{Handle}
 use Rattle.acng_keeper.specs.Kept.{Kept, stored}
 use Rattle.acng_grow.specs.declared.facts.Facts.{Facts}
 use Rattle.acng_rows.specs.Rows.{Row, whole_in}
-use Rattle.acng_desk.specs.House.{House}
 use Rattle.acng_desk.specs.Tickets.{IsOld, IsOldBody}
 use Rattle.acng_desk.specs.Begins.{IsHandleOf}
 use Rattle.acng_desk.proofs.Stores.{sound_next}
@@ -18,12 +17,14 @@ fetch_body-requires g c = λ tells.
 pub invariant_of-self-then-len-size : goal.invariant_of-self-then-len-size
 invariant_of-self-then-len-size g c = sound_next _ _ _ (g.K.Keeper.kept c.fetch_body.new.self) (g.K.Keeper.faults c.fetch_body.new.self)
     (g.K.Keeper.next c.fetch_body.new.self) c.fetch_body.ensures.same_next
-    (λ tells. ap stored (c.in_ok-body.ensures.taken tells)) (λ tells. ap (λ (k : Kept). k.loose) (c.in_ok-body.ensures.taken tells)) c.self.invariant
+    (λ tells. ap stored (c.in_ok-body.ensures.taken tells)) (λ tells. ap (λ (k : Kept). k.loose) (c.in_ok-body.ensures.taken tells))
+    c.self.invariant
 
 pub invariant_of-self-2 : goal.invariant_of-self-2
 invariant_of-self-2 g c = sound_next _ _ _ (g.K.Keeper.kept c.fetch_body.new.self) (g.K.Keeper.faults c.fetch_body.new.self)
     (g.K.Keeper.next c.fetch_body.new.self) c.fetch_body.ensures.same_next
-    (λ tells. ap stored (c.in_ok-body.ensures.taken tells)) (λ tells. ap (λ (k : Kept). k.loose) (c.in_ok-body.ensures.taken tells)) c.self.invariant
+    (λ tells. ap stored (c.in_ok-body.ensures.taken tells)) (λ tells. ap (λ (k : Kept). k.loose) (c.in_ok-body.ensures.taken tells))
+    c.self.invariant
 
 pub returns-clause-stands : goal.returns-clause-stands
 returns-clause-stands g c =
@@ -40,7 +41,11 @@ returns-clause-stands g c =
     } in
     let P : Facts → Type 0 = λ f. IsOld g.S.Site path (record { id = w.id; label = w.label; facts = f; size = w.size })
     × IsOldBody g.S.Site g.K.Keeper.tells path (record { id = w.id; label = w.label; facts = f; size = w.size }) b in
-    let both = subst P (sym c.facts_of-facts.ensures) (is_old g.S.Site g.K.Keeper.tells _ path w c.self.invariant at, is_old_body g.S.Site g.K.Keeper.tells _ path w c.self.invariant at b is) in
+    let both = subst P (sym c.facts_of-facts.ensures) (
+      is_old g.S.Site g.K.Keeper.tells _ path w c.self.invariant at,
+      is_old_body g.S.Site
+          g.K.Keeper.tells _ path w c.self.invariant at b is,
+    ) in
     record { said = both.0; body = both.1 }
 
 pub facts_of-facts-requires : goal.facts_of-facts-requires

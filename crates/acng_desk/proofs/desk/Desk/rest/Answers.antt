@@ -1,4 +1,4 @@
-use Rattle.std.proofs.Common.{◌≡◌, ◌<◌, ℕ, List, Some, sym, ap, subst, ◌∙◌, true}
+use Rattle.std.proofs.Common.{◌≡◌, ◌<◌, sym, ap, subst, ◌∙◌, true}
 use Rattle.std.specs.FinMap as map
 use Rattle.acng_rows.specs.Rows.{Rows, out_at, whole_at}
 use Rattle.acng_rows.specs.Starts.{NamesBelow}
@@ -27,7 +27,8 @@ invariant_of-self-2 g c =
     let own = subst (λ (h : House). HasOwn (out_at h.plain.rows path) part.handle.number) (sym c.self.view_is) c.requires.own in
     let below = subst (λ (h : House). NamesBelow h.plain.next_try part.label) (sym c.self.view_is) c.requires.below in
     let room = subst (λ (h : House). map.len h.plain.parts < most_parts) (sym c.self.view_is) c.requires.room in
-    let P : Rows → Parts → Type 0 = λ m n. IsSound g.S.Site g.K.Keeper.tells (record inside { plain = record inside.plain { rows = m; parts = n } }) in
+    let P : Rows → Parts → Type 0 = λ m n. IsSound g.S.Site g.K.Keeper.tells
+    (record inside { plain = record inside.plain { rows = m; parts = n } }) in
     let parts : c.put.new.self ≡ map.insert inside.plain.parts path part =
     c.in_ok-put.ensures.ok ∙ ap (λ k. map.insert inside.plain.parts k part) c.in_ok-key.ensures in
     subst (λ m. P m c.put.new.self) (sym c.close.ensures)

@@ -1,4 +1,4 @@
-use Rattle.std.proofs.Common.{◌≡◌, ap, sym, ◌∙◌, Some, None, Option}
+use Rattle.std.proofs.Common.{ap, sym, ◌∙◌}
 use Rattle.acng_rows.specs.Rows.{Row, whole_in}
 use Rattle.acng_desk.proofs.desk.Desk.row.Goals as goal
 

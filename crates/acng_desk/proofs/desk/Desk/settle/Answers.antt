@@ -1,19 +1,22 @@
-use Rattle.std.proofs.Common.{◌≡◌, ◌≢◌, ◌<◌, ◌≤◌, ◌+◌, ℕ, List, sym, subst, ap, ◌∙◌, inl, refl, is_some, true, false, Some, None, Option, arith}
+use Rattle.std.proofs.Common.{◌≡◌, ◌≤◌, ◌+◌, sym, subst, ap, ◌∙◌, inl, refl, is_some, true, Some, None}
+use Rattle.std.proofs.Common.{arith}
 use Rattle.std.specs.Option.{option_map, IfSome}
 use mathlib.Core.Bool.{true≢false}
-use Rattle.std.specs.FinMap as map
 use Rattle.acng_grow.specs.declared.facts.Stage.TheVariants as stage
 use Rattle.acng_grow.specs.Grown.{number_of}
 use Rattle.acng_rows.specs.declared.fault.RowFault.{RowFault}
 use Rattle.acng_rows.specs.Calls.{RowRose}
-use Rattle.acng_rows.specs.Rows.{whole_at, out_at, whole_in}
+use Rattle.acng_rows.specs.Rows.{whole_at, whole_in}
 use Rattle.acng_desk.specs.declared.ending.Ending.TheVariants as ending
 use Rattle.acng_desk.specs.declared.ticket.Info.{Info}
-use Rattle.acng_desk.specs.House.{Plain, Parked, parked_of, spot_at}
-use Rattle.acng_desk.specs.Settles.{is_out, IsAmong}
+use Rattle.acng_desk.specs.House.{Parked, parked_of, spot_at}
+use Rattle.acng_desk.specs.Settles.{IsAmong}
 use Rattle.acng_desk.proofs.Changes.{later}
-use Rattle.acng_desk.proofs.Endings.{end_out, keep_stage, same_stage, park_stage, back_stage, park_room, room_is, same_held, ticket_part, ticket_below, part_number, file_number}
+use Rattle.acng_desk.proofs.Endings.{end_out, keep_stage, same_stage, park_stage, back_stage, park_room, room_is, same_held, ticket_part}
+use Rattle.acng_desk.proofs.Endings.{ticket_below, part_number, file_number}
 use Rattle.acng_desk.proofs.Owns.{own_apart, out_below}
+use Rattle.acng_desk.specs.Commands.{Settle, step}
+use Rattle.acng_desk.proofs.Stopped.{rest_stops, any_stops}
 use Rattle.acng_desk.proofs.desk.Desk.settle.Goals as goal
 
 whole_same : stage.Whole ≡ stage.Same → ⊥
@@ -50,8 +53,10 @@ same_load-requires-clause-held g c =
     let s = spot_at plain body.path in
     let o = end_out s t body ending.Same (sym c.ending-ending.ensures ∙ c.in-Same.is) (λ q. cc) in
     let is = same_stage s t body body.seen.stage o.1 in
-    let held = same_held (whole_in s.row) t.info (number_of body) is.1 (c.requires.ends.file_same is.0) (file_number body.file (c.keeps-3.ensures.file.same is.0)) in
-    subst (λ q. is_some (whole_at plain.rows q) ≡ true) (c.requires.ends.path ∙ sym (ap (λ (i : Info). i.path) c.spend-info.ensures.info)) held
+    let held = same_held (whole_in s.row) t.info (number_of body) is.1 (c.requires.ends.file_same is.0)
+    (file_number body.file (c.keeps-3.ensures.file.same is.0)) in
+    subst (λ q. is_some (whole_at plain.rows q) ≡ true) (c.requires.ends.path ∙ sym (ap (λ (i : Info). i.path) c.spend-info.ensures.info))
+    held
 
 pub unreachable-requires : goal.unreachable-requires
 unreachable-requires g c =
@@ -61,10 +66,13 @@ unreachable-requires g c =
     let s = spot_at plain body.path in
     let o = end_out s t body ending.Same (sym c.ending-ending.ensures ∙ c.in-Same.is) (λ q. cc) in
     let is = same_stage s t body body.seen.stage o.1 in
-    let held = same_held (whole_in s.row) t.info (number_of body) is.1 (c.requires.ends.file_same is.0) (file_number body.file (c.keeps-3.ensures.file.same is.0)) in
+    let held = same_held (whole_in s.row) t.info (number_of body) is.1 (c.requires.ends.file_same is.0)
+    (file_number body.file (c.keeps-3.ensures.file.same is.0)) in
     let path = c.spend-info.result.info.path in
-    let there = subst (λ q. is_some (whole_at plain.rows q) ≡ true) (c.requires.ends.path ∙ sym (ap (λ (i : Info). i.path) c.spend-info.ensures.info)) held in
-    let none : whole_at plain.rows path ≡ None = subst (λ (f : RowFault _). RowRose f (whole_at plain.rows path) c.args.self.now.faults c.same_load.new.self.faults)
+    let there = subst (λ q. is_some (whole_at plain.rows q) ≡ true) (c.requires.ends.path
+    ∙ sym (ap (λ (i : Info). i.path) c.spend-info.ensures.info)) held in
+    let none : whole_at plain.rows path ≡ None =
+    subst (λ (f : RowFault _). RowRose f (whole_at plain.rows path) c.args.self.now.faults c.same_load.new.self.faults)
     c.in-Err-NotHeld.field-0-is c.in-Err-NotHeld.ensures.cause in
     true≢false (sym there ∙ ap is_some none)
 
@@ -105,7 +113,8 @@ unreachable-requires-in_default g c =
     let s = spot_at plain body.path in
     let o = end_out s t body ending.Back (sym c.ending-ending.ensures ∙ c.in-Back.is) (λ q. cc) in
     let some : is_some t.part_body ≡ true = (back_stage s t body body.seen.stage o.1).1 in
-    true≢false (sym some ∙ sym (ap is_some c.spend-info.ensures.part) ∙ ap (λ q. is_some (option_map (parked_of g.K.Body.BodyFile.handle) q)) c.in_default.is)
+    true≢false (sym some ∙ sym (ap is_some c.spend-info.ensures.part)
+    ∙ ap (λ q. is_some (option_map (parked_of g.K.Body.BodyFile.handle) q)) c.in_default.is)
 
 pub rest_load-requires-clause-below : goal.rest_load-requires-clause-below
 rest_load-requires-clause-below g c =
@@ -142,3 +151,54 @@ rest_load-requires-clause-other g c =
       λ q. own_apart g.S.Site g.K.Keeper.tells plain body.path t.info b.handle.number c.keeps.ensures.plain o.0 number
           (sym q ∙ ap (λ (i : Info). i.fresh) c.spend-info.ensures.info),
     )
+
+-- ---- stops
+
+pub returns-in-Unknown-clause-stops : goal.returns-in-Unknown-clause-stops
+returns-in-Unknown-clause-stops g c = λ told.
+    rest_stops g.S.Site (step (Settle c.args.ticket c.args.body.now) c.args.self.now.plain).rows c.args.self.now c.args.self.now refl
+
+pub returns-in-Ok-park_load-clause-stops : goal.returns-in-Ok-park_load-clause-stops
+returns-in-Ok-park_load-clause-stops g c = λ told.
+    any_stops g.S.Site (step (Settle c.args.ticket c.args.body.now) c.args.self.now.plain).rows c.args.self.now c.park_load.new.self
+    (c.park_load.ensures.files told).0
+
+pub returns-in-Err-Slip-park_load-clause-stops : goal.returns-in-Err-Slip-park_load-clause-stops
+returns-in-Err-Slip-park_load-clause-stops g c = λ told.
+    any_stops g.S.Site (step (Settle c.args.ticket c.args.body.now) c.args.self.now.plain).rows c.args.self.now c.park_load.new.self
+    (c.park_load.ensures.files told).0
+
+pub returns-in-Park-clause-stops : goal.returns-in-Park-clause-stops
+returns-in-Park-clause-stops g c = λ told.
+    any_stops g.S.Site (step (Settle c.args.ticket c.args.body.now) c.args.self.now.plain).rows c.args.self.now c.park_load.new.self
+    (c.park_load.ensures.files told).0
+
+pub returns-in-Ok-rest_load-clause-stops : goal.returns-in-Ok-rest_load-clause-stops
+returns-in-Ok-rest_load-clause-stops g c = λ told.
+    any_stops g.S.Site (step (Settle c.args.ticket c.args.body.now) c.args.self.now.plain).rows c.args.self.now c.rest_load.new.self
+    (c.rest_load.ensures.files told).0
+
+pub returns-in-Err-Slip-rest_load-clause-stops : goal.returns-in-Err-Slip-rest_load-clause-stops
+returns-in-Err-Slip-rest_load-clause-stops g c = λ told.
+    any_stops g.S.Site (step (Settle c.args.ticket c.args.body.now) c.args.self.now.plain).rows c.args.self.now c.rest_load.new.self
+    (c.rest_load.ensures.files told).0
+
+pub returns-in-Back-clause-stops : goal.returns-in-Back-clause-stops
+returns-in-Back-clause-stops g c = λ told.
+    any_stops g.S.Site (step (Settle c.args.ticket c.args.body.now) c.args.self.now.plain).rows c.args.self.now c.rest_load.new.self
+    (c.rest_load.ensures.files told).0
+
+pub returns-in-Ok-drop_load-clause-stops : goal.returns-in-Ok-drop_load-clause-stops
+returns-in-Ok-drop_load-clause-stops g c = λ told.
+    any_stops g.S.Site (step (Settle c.args.ticket c.args.body.now) c.args.self.now.plain).rows c.args.self.now c.drop_load.new.self
+    (c.drop_load.ensures.files told).0
+
+pub returns-in-Err-Slip-drop_load-clause-stops : goal.returns-in-Err-Slip-drop_load-clause-stops
+returns-in-Err-Slip-drop_load-clause-stops g c = λ told.
+    any_stops g.S.Site (step (Settle c.args.ticket c.args.body.now) c.args.self.now.plain).rows c.args.self.now c.drop_load.new.self
+    (c.drop_load.ensures.files told).0
+
+pub returns-clause-stops : goal.returns-clause-stops
+returns-clause-stops g c = λ told.
+    any_stops g.S.Site (step (Settle c.args.ticket c.args.body.now) c.args.self.now.plain).rows c.args.self.now c.drop_load.new.self
+    (c.drop_load.ensures.files told).0
