@@ -13,4 +13,4 @@ test:
 
 # The pictures of docs/ARCHITECTURE.md, drawn by Graphviz from the text beside them.
 pictures:
-	for picture in layers request download; do dot -Tsvg docs/pictures/$$picture.dot -o docs/pictures/$$picture.svg || exit 1; done
+	for picture in layers request desk download; do dot -Tsvg docs/pictures/$$picture.dot -o docs/pictures/$$picture.svg || exit 1; done
