@@ -3,6 +3,8 @@ pub mod Frames
 pub mod Fronts
 pub mod Growth
 pub mod Kept
+pub mod Looked
 pub mod Pieces
 pub mod Steps
+pub mod Turned
 mod Rows

@@ -4,9 +4,9 @@ use Rattle.std.specs.Prelude.{None, Some, ⊤}
 use Rattle.acng_base.specs.Causes.{Rose}
 use Rattle.acng_grow.specs.declared.facts.Stage.{Stage}
 use Rattle.acng_grow.specs.declared.sending.Sending.{Sending}
-use Rattle.acng_grow.specs.declared.follow.FollowStop.{FollowStop}
-use Rattle.acng_grow.specs.declared.follow.FollowStop.TheVariants as stop
-use Rattle.acng_grow.specs.declared.follow.Followed.{Followed}
+use Rattle.acng_grow.specs.declared.owned.FollowStop.{FollowStop}
+use Rattle.acng_grow.specs.declared.owned.FollowStop.TheVariants as stop
+use Rattle.acng_grow.specs.declared.owned.Followed.{Followed}
 use Rattle.acng_grow.specs.declared.why.Shown.{Shown}
 use Rattle.acng_grow.specs.Effects.{is_complete}
 use Rattle.acng_grow.specs.Grown.{Grown, text_of}

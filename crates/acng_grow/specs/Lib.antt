@@ -9,6 +9,8 @@ pub mod Faithful
 pub mod Follows
 pub mod Grown
 pub mod Keeps
+pub mod Looks
 pub mod Sends
 pub mod Stands
 pub mod Takes
+pub mod Turns

@@ -5,6 +5,9 @@
 //! label: they are a front of one instance of the file, and all of it once it is whole. So each reader gets a front of one
 //! and the same file, whenever it reads.
 //!
+//! A `Shared` is such a body behind a lock: one loads it while many follow it. Only `lock.rt` takes a lock, and what it
+//! tells stays true whoever has the body next.
+//!
 //! ```text
 //!               begin_body, go_on                finish
 //!     Opening ---------------------> Running ----------------> Whole
@@ -18,10 +21,12 @@
 
 mod asked;
 mod facts;
-mod follow;
+mod finding;
 mod growing;
 mod law;
+mod lock;
 mod looking;
+mod owned;
 mod sending;
 mod settling;
 mod taking;
@@ -29,9 +34,10 @@ mod why;
 
 pub use asked::{Asked, Look};
 pub use facts::{Facts, Seen, Stage};
-pub use follow::{FollowStop, Followed, follow_owned};
 pub use growing::Growing;
 pub use law::{bodies_grow, effects_keep};
+pub use lock::{Shared, await_head, follow};
+pub use owned::{FollowStop, Followed, follow_owned};
 pub use sending::{Sending, send_last, send_piece};
 pub use settling::PartialBody;
 pub use taking::Taken;

@@ -36,7 +36,7 @@ impl<S: Site, F: BodyFile, P: OriginSlip> Growing<S, F, P> {
         }
     }
 
-    fn agrees(&self, asked: &Asked) -> bool
+    pub(crate) fn agrees(&self, asked: &Asked) -> bool
         ensures { result ≡ agrees_of asked.now self.now }
     {
         self.path.as_bytes() == asked.path.as_bytes()

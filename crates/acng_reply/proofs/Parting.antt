@@ -10,8 +10,8 @@ use Rattle.std.proofs.Math.Seq.{take-append-add, take-add}
 use Rattle.acng_base.specs.Causes.{Rose}
 use Rattle.acng_request.specs.ReplyHeads.{head_text, IsDateOf}
 use Rattle.acng_grow.specs.declared.sending.Sending.{Sending}
-use Rattle.acng_grow.specs.declared.follow.FollowStop.{FollowStop}
-use Rattle.acng_grow.specs.declared.follow.FollowStop.TheVariants as stop
+use Rattle.acng_grow.specs.declared.owned.FollowStop.{FollowStop}
+use Rattle.acng_grow.specs.declared.owned.FollowStop.TheVariants as stop
 use Rattle.acng_grow.specs.declared.why.Shown.{Shown}
 use Rattle.acng_grow.specs.Sends.{Sends, BreaksIn, BreaksAfter, last_text, framed, piece_text, AreSome, counted_in}
 use Rattle.acng_grow.specs.Follows.{FollowsTo, FaultRose}

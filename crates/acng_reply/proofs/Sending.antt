@@ -10,9 +10,9 @@ use Rattle.acng_request.specs.declared.reply.ReplyHead.{ReplyHead}
 use Rattle.acng_grow.specs.declared.facts.Facts.{Facts}
 use Rattle.acng_grow.specs.declared.sending.Sending.{Sending}
 use Rattle.acng_grow.specs.declared.sending.Sending.TheVariants.{Length}
-use Rattle.acng_grow.specs.declared.follow.FollowStop.{FollowStop}
-use Rattle.acng_grow.specs.declared.follow.FollowStop.TheVariants as stop
-use Rattle.acng_grow.specs.declared.follow.Followed.{Followed}
+use Rattle.acng_grow.specs.declared.owned.FollowStop.{FollowStop}
+use Rattle.acng_grow.specs.declared.owned.FollowStop.TheVariants as stop
+use Rattle.acng_grow.specs.declared.owned.Followed.{Followed}
 use Rattle.acng_grow.specs.declared.why.Shown.{Shown}
 use Rattle.acng_grow.specs.declared.facts.Seen.{Seen}
 use Rattle.acng_grow.specs.declared.facts.Stage.TheVariants as stage

@@ -1,8 +1,8 @@
 -- What went out of a reply whose body a growing body gives.
 use Rattle.std.specs.Prelude.{◌≡◌, ◌≤◌, ℕ, Bool, true, false, not, ◌||◌, List, length, Option, Some, Result, Ok, Err}
-use Rattle.acng_grow.specs.declared.follow.FollowStop.{FollowStop}
-use Rattle.acng_grow.specs.declared.follow.FollowStop.TheVariants as stop
-use Rattle.acng_grow.specs.declared.follow.Followed.{Followed}
+use Rattle.acng_grow.specs.declared.owned.FollowStop.{FollowStop}
+use Rattle.acng_grow.specs.declared.owned.FollowStop.TheVariants as stop
+use Rattle.acng_grow.specs.declared.owned.Followed.{Followed}
 use Rattle.acng_grow.specs.declared.why.Shown.{Shown}
 use Rattle.acng_grow.specs.Grown.{Grown, text_of}
 use Rattle.acng_grow.specs.Follows.{is_there}

@@ -2,9 +2,9 @@
 use Rattle.std.proofs.Common.{◌≡◌, inl, inr, ℕ, Bool, true, false, List, length, Option, Some, None, refl, ap, sym, subst, ◌∙◌}
 use Rattle.acng_head.specs.declared.head.Label.{Label}
 use Rattle.acng_desk.specs.declared.entry.Entry.{Entry}
-use Rattle.acng_grow.specs.declared.follow.FollowStop.{FollowStop}
-use Rattle.acng_grow.specs.declared.follow.FollowStop.TheVariants as stop
-use Rattle.acng_grow.specs.declared.follow.Followed.{Followed}
+use Rattle.acng_grow.specs.declared.owned.FollowStop.{FollowStop}
+use Rattle.acng_grow.specs.declared.owned.FollowStop.TheVariants as stop
+use Rattle.acng_grow.specs.declared.owned.Followed.{Followed}
 use Rattle.acng_grow.specs.declared.why.Shown.{Shown}
 use Rattle.acng_grow.specs.Grown.{Grown, text_of}
 use Rattle.acng_request.specs.declared.got.Request.{Request}

@@ -5,8 +5,8 @@ use Rattle.acng_remap.specs.declared.target.TargetFault.TheVariants as target
 use Rattle.acng_desk.specs.declared.entry.BrimKind.{BrimKind}
 use Rattle.acng_desk.specs.declared.entry.BrimKind.TheVariants as brim
 use Rattle.acng_desk.specs.Begins.{brim_of}
-use Rattle.acng_grow.specs.declared.follow.FollowStop.{FollowStop}
-use Rattle.acng_grow.specs.declared.follow.FollowStop.TheVariants as stop
+use Rattle.acng_grow.specs.declared.owned.FollowStop.{FollowStop}
+use Rattle.acng_grow.specs.declared.owned.FollowStop.TheVariants as stop
 use Rattle.acng_reply.specs.declared.line.Line.{Line}
 use Rattle.acng_reply.specs.declared.line.Line.TheVariants as line
 use Rattle.acng_reply.specs.declared.pick.Pick.{Pick}

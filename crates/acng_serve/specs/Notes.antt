@@ -4,8 +4,8 @@ use Rattle.acng_head.specs.declared.head.Label.{Label}
 use Rattle.acng_base.specs.Causes.{Rose}
 use Rattle.acng_grow.specs.declared.asked.Look.{Look}
 use Rattle.acng_grow.specs.declared.facts.Seen.{Seen}
-use Rattle.acng_grow.specs.declared.follow.FollowStop.{FollowStop}
-use Rattle.acng_grow.specs.declared.follow.FollowStop.TheVariants as stop
+use Rattle.acng_grow.specs.declared.owned.FollowStop.{FollowStop}
+use Rattle.acng_grow.specs.declared.owned.FollowStop.TheVariants as stop
 use Rattle.acng_grow.specs.Grown.{Grown, text_of}
 use Rattle.acng_grow.specs.declared.why.Shown.{Shown}
 use Rattle.acng_desk.specs.declared.entry.Entry.{Entry}

@@ -1,7 +1,7 @@
 use Rattle.std.proofs.Common.{◌≡◌, ◌∙◌, ◌⊎◌, ◌≤◌, IfSome, true, ap, sym, subst}
 use Rattle.std.proofs.KnownBytes.{Keeps-trans}
 use Rattle.acng_grow.specs.declared.facts.Stage.TheVariants as stage
-use Rattle.acng_grow.specs.declared.follow.FollowStop.TheVariants as stop
+use Rattle.acng_grow.specs.declared.owned.FollowStop.TheVariants as stop
 use Rattle.acng_grow.specs.Follows.{FollowsAs}
 use Rattle.acng_reply.specs.Heads.{file_head, sending_of}
 use Rattle.acng_reply.specs.Picks.{range_of}

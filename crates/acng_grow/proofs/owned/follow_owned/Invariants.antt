@@ -4,7 +4,7 @@ use Rattle.acng_grow.specs.Grown.{text_of}
 use Rattle.acng_grow.specs.Takes.{Rests}
 use Rattle.acng_grow.specs.Follows.{part_of}
 use Rattle.acng_grow.specs.Sends.{HasGone}
-use Rattle.acng_grow.proofs.follow.follow_owned.Given as goal
+use Rattle.acng_grow.proofs.owned.follow_owned.Given as goal
 
 abbrev pub invariant-loop-sent : goal.invariant-loop-sent
 invariant-loop-sent g l =

@@ -7,7 +7,7 @@ use Rattle.acng_grow.specs.Follows.{end_at, is_there, part_of, FollowsAs}
 use Rattle.acng_grow.specs.Sends.{Breaks, HasGone, piece_text}
 use Rattle.acng_grow.proofs.Pieces.{gone_more}
 use Rattle.acng_grow.proofs.Following.{rests_trans, rests_text, part_most, piece_stands, filled, piece_broke, slip_sent, last_broke}
-use Rattle.acng_grow.proofs.follow.follow_owned.Goals as goal
+use Rattle.acng_grow.proofs.owned.follow_owned.Goals as goal
 
 pub returns-in-Err-clause-sends : goal.returns-in-Err-clause-sends
 returns-in-Err-clause-sends g c =

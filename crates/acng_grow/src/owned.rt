@@ -88,14 +88,14 @@ pub fn follow_owned<S: Site, F: BodyFile, P: OriginSlip, L: Link>(
     ended(sent, label, FollowStop::Whole)
 }
 
-fn ended<Q>(sent: u64, label: Option<Label>, stop: FollowStop<Q>) -> Followed<Q>
+pub(crate) fn ended<Q>(sent: u64, label: Option<Label>, stop: FollowStop<Q>) -> Followed<Q>
     ensures { result ≡ record { sent = sent; label = label; stop = stop } }
 {
     Followed { sent, label, stop }
 }
 
 // How many of so many bytes fit in a frame.
-fn room_for(left: u64) -> usize
+pub(crate) fn room_for(left: u64) -> usize
     requires { 0 < left }
     ensures some { 0 < result }
     ensures fits { result ≤ 65536 }
@@ -105,7 +105,7 @@ fn room_for(left: u64) -> usize
 }
 
 // Takes a piece of so many bytes at most into its place in a frame.
-fn take_piece<S: Site, F: BodyFile, P: OriginSlip>(
+pub(crate) fn take_piece<S: Site, F: BodyFile, P: OriginSlip>(
     body: &mut Growing<S, F, P>,
     from: u64,
     frame: &mut [u8],
