@@ -1,13 +1,12 @@
 -- What a ticket gives to its download, and what the download gives to the ticket's settling.
 use Rattle.std.proofs.Common.{◌≡◌, ◌⊎◌, inl, inr, ◌<◌, ◌≤◌, ◌+◌, ◌-◌, ◌&&◌, ◌||◌, ◌==◌, ℕ, suc, Bool, true, false, List, [], ◌∷◌}
-use Rattle.std.proofs.Common.{Option, Some, None, IfSome, IsSome, IsSomeAnd, is_some, option_map, option_and_then, nat_le, nat_lt, All}
+use Rattle.std.proofs.Common.{Option, Some, None, IfSome, IsSomeAnd, is_some, option_map, option_and_then, nat_le, nat_lt, All}
 use Rattle.std.proofs.Common.{refl, ap, sym, subst, ◌∙◌, arith, not}
 use Rattle.std.proofs.lemmas.Bool.{le-leb, eq-eqb}
 use Rattle.std.proofs.lemmas.List.Elements.{All-head, All-tail}
 use Rattle.acng_site.specs.declared.site.Site.{Ghosts as SiteGhosts}
 use Rattle.acng_head.specs.declared.head.Label.{Label}
 use Rattle.acng_head.specs.declared.head.Label.TheVariants.{Fetched, Imported}
-use Rattle.acng_grow.specs.declared.facts.Facts.{Facts}
 use Rattle.acng_grow.specs.declared.facts.Seen.{Seen}
 use Rattle.acng_grow.specs.declared.facts.Stage.{Stage}
 use Rattle.acng_grow.specs.declared.facts.Stage.TheVariants as stage
@@ -16,13 +15,11 @@ use Rattle.acng_grow.specs.declared.why.Shown.{Shown}
 use Rattle.acng_grow.specs.declared.why.Shown.TheVariants as shown
 use Rattle.acng_grow.specs.Agrees.{is_among, is_fetched, label_agrees, named_among, cause_agrees}
 use Rattle.acng_grow.specs.Causes.{named}
-use Rattle.acng_grow.specs.Download.{since_of}
-use Rattle.acng_grow.specs.Effects.{Part, Old, Errand}
+use Rattle.acng_grow.specs.Effects.{Old, Errand}
 use Rattle.acng_grow.specs.Stands.{AreFrom, FactsStand, StandsWhole}
 use Rattle.acng_grow.specs.Keeps.{IsBounded, IsFetched}
 use Rattle.acng_keeper.specs.Handles.{Handle}
 use Rattle.acng_rows.specs.Starts.{NamesBelow}
-use Rattle.acng_desk.specs.declared.ticket.Info.{Info}
 use Rattle.acng_desk.specs.declared.ticket.OldFile.{OldFile}
 use Rattle.acng_desk.specs.declared.ticket.PartFile.{PartFile}
 use Rattle.acng_desk.specs.Tickets.{Ticketed, IsTicket, IsUnused, IsOld, IsOldBody, IsPart, errand_of, held_of, part_of, first_in, last_in}
@@ -30,8 +27,7 @@ use Rattle.acng_desk.specs.Settles.{Ends, IsOwn, was_label}
 use Rattle.acng_desk.specs.declared.settle.Settled.{Settled}
 use Rattle.acng_desk.specs.declared.settle.Settled.TheVariants as settled
 use Rattle.acng_desk.specs.Settles as settles
-use Rattle.acng_fetch.specs.Leads.{IsLed, is_full}
-use Rattle.acng_fetch.specs.Supplies.{same_some}
+use Rattle.acng_fetch.specs.Leads.{IsLed, is_full, same_some}
 use Rattle.acng_fetch.specs.Loads as loads
 use Rattle.acng_fetch.specs.Loads.{IsAmong, IsEnded, Names}
 use Rattle.acng_fetch.specs.Orders.{AllServe, PartKeeps, OldKeeps, ErrandKeeps}

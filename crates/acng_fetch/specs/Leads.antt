@@ -1,11 +1,10 @@
 -- A ticket and the body that is loaded by it.
-use Rattle.std.specs.Prelude.{◌≡◌, ◌≢◌, ◌+◌, ◌-◌, ℕ, Bool, true, false, not, ◌&&◌, Option, None, Some, is_some, IfSome}
+use Rattle.std.specs.Prelude.{◌≡◌, ◌≢◌, ◌+◌, ◌-◌, Bool, true, false, not, ◌&&◌, None, Some, is_some, IfSome}
 use Rattle.acng_grow.specs.declared.facts.Stage.TheVariants as stage
 use Rattle.acng_grow.specs.Grown.{Grown, number_of}
 use Rattle.acng_desk.specs.Tickets.{Ticketed, errand_of}
 use Rattle.acng_desk.specs.Settles.{IsOwn, part_id, was_id}
 use Rattle.acng_fetch.specs.Stocks.{Stock}
-use Rattle.acng_fetch.specs.Supplies.{same_some}
 
 pub record Lead : Type 0 where
   pub ticket : Ticketed
@@ -18,8 +17,12 @@ stock_of l = record {
   first = l.ticket.info.first;
   next = l.ticket.info.first + 16 - l.ticket.left;
   left = l.ticket.left;
-  info = Some l.ticket.info;
+  info = l.ticket.info;
 }
+
+abbrev pub same_some : Bool → Bool → Bool
+same_some true b = b
+same_some false b = not b
 
 -- no file was taken from the ticket
 abbrev pub is_full : Ticketed → Bool

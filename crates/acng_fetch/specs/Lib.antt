@@ -1,3 +1,4 @@
+pub mod Answering
 pub mod Decisions
 pub mod Events
 pub mod Fits
@@ -9,4 +10,3 @@ pub mod LoadsBy
 pub mod Orders
 pub mod Rooms
 pub mod Stocks
-pub mod Supplies

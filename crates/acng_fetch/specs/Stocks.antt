@@ -11,8 +11,8 @@ pub record Stock : Type 0 where
   pub first : ℕ
   pub next : ℕ
   pub left : ℕ
-  -- what the ticket says that it is by, where there is one
-  pub info : Option Info
+  -- what the ticket says that it is by
+  pub info : Info
 
 -- what is to be seen of the body, where one owner has it, is as the plan says
 abbrev pub Agrees : Option Seen → Seen → Type 0

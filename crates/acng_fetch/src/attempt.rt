@@ -13,12 +13,13 @@ ghost use Rattle.acng_grow.specs.declared.facts.Seen.{Seen};
 ghost use Rattle.acng_grow.specs.declared.why.Shown.TheVariants as shown;
 ghost use Rattle.acng_grow.specs.Causes.{shown_of, may_refuse, named};
 ghost use Rattle.acng_grow.specs.Effects.{Errand, Start, GoOn, Resume, Cut, opening, last_of};
-ghost use Rattle.acng_grow.specs.Download.{On, Asking, Going, cause_of, flows, ends, led_by};
+ghost use Rattle.acng_grow.specs.Download.{On, Asking, Going, cause_of, ends, led_by};
 ghost use Rattle.acng_grow.specs.Download.{next_origin as next_origin_of, headless as headless_of};
 ghost use Rattle.acng_grow.specs.Keeps.{HasTotal, IsDated, attempts_end};
 ghost use Rattle.acng_grow.specs.Allowed.{AllAllowed};
-ghost use Rattle.acng_fetch.specs.Decisions.{decides_told, headed_told, verdict_told, IsVerdict};
-ghost use Rattle.acng_fetch.specs.Events.{IsReady, IfSlipEnd, left_of, outcome_of};
+ghost use Rattle.acng_fetch.specs.Answering.{IsHeaded, MayTurn, takes, heads};
+ghost use Rattle.acng_fetch.specs.Decisions.{decides_told, verdict_told, IsVerdict};
+ghost use Rattle.acng_fetch.specs.Events.{IfSlipEnd, left_of, outcome_of};
 ghost use Rattle.acng_fetch.specs.Loads.{AfterIn, FaultsIn, GoesIn, RunsIn, StandsIn, Turns, follows, url_of, stand_of};
 ghost use Rattle.acng_fetch.specs.Orders.{ErrandKeeps, PartKeeps};
 ghost use Rattle.acng_fetch.specs.Rooms.{Room, IfWhole};
@@ -56,8 +57,8 @@ fn next_origin<B: Grows>(
     requires refuses { may_refuse (shown_of B.Slip.number B.File.Slip.number 0 why) ≡ true }
     requires names { named (shown_of B.Slip.number B.File.Slip.number 0 why) ≡ Some attempt }
     requires later { (B.stock loader.old.body).first ≤ attempt }
-    requires allowed { B.Site.tells ≡ true → AllAllowed B.Site.Site (B.stock loader.old.body).path order.now loader.old.plan
-        (next_origin_of (shown_of B.Slip.number B.File.Slip.number 0 why) (drop next order.now.origins) followed).effects }
+    requires allowed { MayTurn B.Site.Site (B.stock loader.old.body) order.now loader.old.plan
+        (next_origin_of (shown_of B.Slip.number B.File.Slip.number 0 why) (drop next order.now.origins) followed) }
     ensures turns { IfOk result (λ turned. Turns B.Slip.number B.File.Slip.number order.now
         (next_origin_of (shown_of B.Slip.number B.File.Slip.number 0 why) (drop next order.now.origins) followed)
         loader.old.plan loader.new.plan turned) }
@@ -105,18 +106,14 @@ fn take_body<B: Grows, C: Conn<Slip = B::Slip>>(
     exchange: &mut Exchange<C>,
     attempt: u64,
 ) -> Result<End<B::Slip>, FaultOf<B>>
-    requires ready { IsReady exchange.old }
-    requires told { IsSome exchange.old.reader.head }
-    requires number { C.number exchange.old.conn ≡ attempt }
-    requires tells { B.Site.tells ≡ true → C.tells ≡ true }
+    requires answer { IsHeaded C.Conn B.Site.tells attempt exchange.old }
     requires running { RunsIn (B.stock loader.old.body).first loader.old.plan (attempt + 1) }
     requires later { (B.stock loader.old.body).first ≤ attempt }
     requires agrees { Agrees (B.seen loader.old.body) loader.old.plan }
     requires room { Room loader.old.plan.facts.total (due exchange.old.reader) loader.old.plan.size exchange.old.reader.at
         exchange.old.reader.limit }
-    requires allowed { B.Site.tells ≡ true → AllAllowed B.Site.Site (B.stock loader.old.body).path order.now loader.old.plan
-        (flows attempt (url_of loader.old.plan) loader.old.plan.facts loader.old.plan.size (left_of C.Conn exchange.old).body
-        (left_of C.Conn exchange.old).outcome).effects }
+    requires allowed { MayTurn B.Site.Site (B.stock loader.old.body) order.now loader.old.plan
+        (takes attempt (url_of loader.old.plan) loader.old.plan.facts loader.old.plan.size (left_of C.Conn exchange.old)) }
     ensures taken { OnOk result (B.Site.tells ≡ true →
         loader.new.plan ≡ record loader.old.plan { size = loader.old.plan.size + length (left_of C.Conn exchange.old).body }) }
     ensures ends { IfOk result (λ end. B.Site.tells ≡ true → (left_of C.Conn exchange.old).outcome ≡ outcome_of end) }
@@ -151,8 +148,8 @@ fn close<B: Grows>(
     requires running { RunsIn (B.stock loader.old.body).first loader.old.plan (attempt + 1) }
     requires later { (B.stock loader.old.body).first ≤ attempt }
     requires agrees { Agrees (B.seen loader.old.body) loader.old.plan }
-    requires allowed { B.Site.tells ≡ true → AllAllowed B.Site.Site (B.stock loader.old.body).path order.now loader.old.plan
-        (ends attempt (url_of loader.old.plan) loader.old.plan.facts loader.old.plan.size (outcome_of end)).effects }
+    requires allowed { MayTurn B.Site.Site (B.stock loader.old.body) order.now loader.old.plan
+        (ends attempt (url_of loader.old.plan) loader.old.plan.facts loader.old.plan.size (outcome_of end)) }
     ensures turns { Turns B.Slip.number B.File.Slip.number order.now
         (ends attempt (url_of loader.old.plan) loader.old.plan.facts loader.old.plan.size (outcome_of end))
         loader.old.plan loader.new.plan result }
@@ -207,8 +204,8 @@ pub(crate) fn headless<B: Grows>(
         (B.full loader.old.body) attempt standing }
     requires later { (B.stock loader.old.body).first ≤ attempt }
     requires agrees { Agrees (B.seen loader.old.body) loader.old.plan }
-    requires allowed { B.Site.tells ≡ true → AllAllowed B.Site.Site (B.stock loader.old.body).path order.now loader.old.plan
-        (headless_of attempt (stand_of B.Slip.number B.File.Slip.number order.now loader.old.plan standing) (outcome_of end)).effects }
+    requires allowed { MayTurn B.Site.Site (B.stock loader.old.body) order.now loader.old.plan
+        (headless_of attempt (stand_of B.Slip.number B.File.Slip.number order.now loader.old.plan standing) (outcome_of end)) }
     ensures turns { IfOk result (λ turned. Turns B.Slip.number B.File.Slip.number order.now
         (headless_of attempt (stand_of B.Slip.number B.File.Slip.number order.now loader.old.plan standing) (outcome_of end))
         loader.old.plan loader.new.plan turned) }
@@ -257,21 +254,16 @@ fn flow<B: Grows, C: Conn<Slip = B::Slip>>(
     exchange: &mut Exchange<C>,
     attempt: u64,
 ) -> TurnOf<B>
-    requires ready { IsReady exchange.old }
-    requires told { IsSome exchange.old.reader.head }
-    requires number { C.number exchange.old.conn ≡ attempt }
-    requires tells { B.Site.tells ≡ true → C.tells ≡ true }
+    requires answer { IsHeaded C.Conn B.Site.tells attempt exchange.old }
     requires running { RunsIn (B.stock loader.old.body).first loader.old.plan (attempt + 1) }
     requires later { (B.stock loader.old.body).first ≤ attempt }
     requires agrees { Agrees (B.seen loader.old.body) loader.old.plan }
     requires room { Room loader.old.plan.facts.total (due exchange.old.reader) loader.old.plan.size exchange.old.reader.at
         exchange.old.reader.limit }
-    requires allowed { B.Site.tells ≡ true → AllAllowed B.Site.Site (B.stock loader.old.body).path order.now loader.old.plan
-        (flows attempt (url_of loader.old.plan) loader.old.plan.facts loader.old.plan.size (left_of C.Conn exchange.old).body
-        (left_of C.Conn exchange.old).outcome).effects }
+    requires allowed { MayTurn B.Site.Site (B.stock loader.old.body) order.now loader.old.plan
+        (takes attempt (url_of loader.old.plan) loader.old.plan.facts loader.old.plan.size (left_of C.Conn exchange.old)) }
     ensures turns { IfOk result (λ turned. B.Site.tells ≡ true → Turns B.Slip.number B.File.Slip.number order.now
-        (flows attempt (url_of loader.old.plan) loader.old.plan.facts loader.old.plan.size (left_of C.Conn exchange.old).body
-        (left_of C.Conn exchange.old).outcome)
+        (takes attempt (url_of loader.old.plan) loader.old.plan.facts loader.old.plan.size (left_of C.Conn exchange.old))
         loader.old.plan loader.new.plan turned) }
     ensures stands { IfOk result (λ turned. AfterIn B.Slip.number B.File.Slip.number order.now (B.stock loader.old.body).first
         loader.new.plan (B.full loader.new.body) (attempt + 1) turned) }
@@ -292,10 +284,7 @@ fn begin<B: Grows, C: Conn<Slip = B::Slip>>(
     url: Text,
     facts: Facts,
 ) -> TurnOf<B>
-    requires ready { IsReady exchange.old }
-    requires told { IsSome exchange.old.reader.head }
-    requires number { C.number exchange.old.conn ≡ attempt }
-    requires tells { B.Site.tells ≡ true → C.tells ≡ true }
+    requires answer { IsHeaded C.Conn B.Site.tells attempt exchange.old }
     requires opening { loader.old.plan ≡ opening }
     requires full { B.full loader.old.body ≡ true }
     requires agrees { Agrees (B.seen loader.old.body) loader.old.plan }
@@ -303,12 +292,10 @@ fn begin<B: Grows, C: Conn<Slip = B::Slip>>(
     requires later { (B.stock loader.old.body).first ≤ attempt }
     requires dated { IsDated facts }
     requires room { Room facts.total (due exchange.old.reader) 0 exchange.old.reader.at exchange.old.reader.limit }
-    requires allowed { B.Site.tells ≡ true → AllAllowed B.Site.Site (B.stock loader.old.body).path order.now loader.old.plan
-        (led_by (Start attempt url facts) (flows attempt url facts 0 (left_of C.Conn exchange.old).body
-        (left_of C.Conn exchange.old).outcome)).effects }
+    requires allowed { MayTurn B.Site.Site (B.stock loader.old.body) order.now loader.old.plan
+        (led_by (Start attempt url facts) (takes attempt url facts 0 (left_of C.Conn exchange.old))) }
     ensures turns { IfOk result (λ turned. B.Site.tells ≡ true → Turns B.Slip.number B.File.Slip.number order.now
-        (led_by (Start attempt url facts) (flows attempt url facts 0 (left_of C.Conn exchange.old).body
-        (left_of C.Conn exchange.old).outcome))
+        (led_by (Start attempt url facts) (takes attempt url facts 0 (left_of C.Conn exchange.old)))
         loader.old.plan loader.new.plan turned) }
     ensures stands { IfOk result (λ turned. AfterIn B.Slip.number B.File.Slip.number order.now (B.stock loader.old.body).first
         loader.new.plan (B.full loader.new.body) (attempt + 1) turned) }
@@ -329,10 +316,7 @@ fn go_on<B: Grows, C: Conn<Slip = B::Slip>>(
     attempt: u64,
     part: &PartOrder,
 ) -> TurnOf<B>
-    requires ready { IsReady exchange.old }
-    requires told { IsSome exchange.old.reader.head }
-    requires number { C.number exchange.old.conn ≡ attempt }
-    requires tells { B.Site.tells ≡ true → C.tells ≡ true }
+    requires answer { IsHeaded C.Conn B.Site.tells attempt exchange.old }
     requires opening { loader.old.plan ≡ opening }
     requires full { B.full loader.old.body ≡ true }
     requires agrees { Agrees (B.seen loader.old.body) loader.old.plan }
@@ -343,12 +327,10 @@ fn go_on<B: Grows, C: Conn<Slip = B::Slip>>(
     requires keeps { PartKeeps B.Site.Site (B.stock loader.old.body).path attempt part.now }
     requires room { Room part.now.facts.total (due exchange.old.reader) part.now.size exchange.old.reader.at
         exchange.old.reader.limit }
-    requires allowed { B.Site.tells ≡ true → AllAllowed B.Site.Site (B.stock loader.old.body).path order.now loader.old.plan
-        (led_by (GoOn attempt) (flows attempt part.now.url part.now.facts part.now.size (left_of C.Conn exchange.old).body
-        (left_of C.Conn exchange.old).outcome)).effects }
+    requires allowed { MayTurn B.Site.Site (B.stock loader.old.body) order.now loader.old.plan
+        (led_by (GoOn attempt) (takes attempt part.now.url part.now.facts part.now.size (left_of C.Conn exchange.old))) }
     ensures turns { IfOk result (λ turned. B.Site.tells ≡ true → Turns B.Slip.number B.File.Slip.number order.now
-        (led_by (GoOn attempt) (flows attempt part.now.url part.now.facts part.now.size (left_of C.Conn exchange.old).body
-        (left_of C.Conn exchange.old).outcome))
+        (led_by (GoOn attempt) (takes attempt part.now.url part.now.facts part.now.size (left_of C.Conn exchange.old)))
         loader.old.plan loader.new.plan turned) }
     ensures stands { IfOk result (λ turned. AfterIn B.Slip.number B.File.Slip.number order.now (B.stock loader.old.body).first
         loader.new.plan (B.full loader.new.body) (attempt + 1) turned) }
@@ -368,24 +350,19 @@ fn resume<B: Grows, C: Conn<Slip = B::Slip>>(
     exchange: &mut Exchange<C>,
     attempt: u64,
 ) -> TurnOf<B>
-    requires ready { IsReady exchange.old }
-    requires told { IsSome exchange.old.reader.head }
-    requires number { C.number exchange.old.conn ≡ attempt }
-    requires tells { B.Site.tells ≡ true → C.tells ≡ true }
+    requires answer { IsHeaded C.Conn B.Site.tells attempt exchange.old }
     requires running { RunsIn (B.stock loader.old.body).first loader.old.plan (attempt + 1) }
     requires agrees { Agrees (B.seen loader.old.body) loader.old.plan }
     requires bounded { attempt < attempts_end }
     requires later { (B.stock loader.old.body).first ≤ attempt }
     requires room { Room loader.old.plan.facts.total (due exchange.old.reader) loader.old.plan.size exchange.old.reader.at
         exchange.old.reader.limit }
-    requires allowed { B.Site.tells ≡ true → AllAllowed B.Site.Site (B.stock loader.old.body).path order.now loader.old.plan
-        (led_by (Resume attempt) (flows attempt (url_of loader.old.plan) loader.old.plan.facts loader.old.plan.size
-        (left_of C.Conn exchange.old).body
-        (left_of C.Conn exchange.old).outcome)).effects }
+    requires allowed { MayTurn B.Site.Site (B.stock loader.old.body) order.now loader.old.plan
+        (led_by (Resume attempt) (takes attempt (url_of loader.old.plan) loader.old.plan.facts loader.old.plan.size
+        (left_of C.Conn exchange.old))) }
     ensures turns { IfOk result (λ turned. B.Site.tells ≡ true → Turns B.Slip.number B.File.Slip.number order.now
-        (led_by (Resume attempt) (flows attempt (url_of loader.old.plan) loader.old.plan.facts loader.old.plan.size
-        (left_of C.Conn exchange.old).body
-        (left_of C.Conn exchange.old).outcome))
+        (led_by (Resume attempt) (takes attempt (url_of loader.old.plan) loader.old.plan.facts loader.old.plan.size
+        (left_of C.Conn exchange.old)))
         loader.old.plan loader.new.plan turned) }
     ensures stands { IfOk result (λ turned. AfterIn B.Slip.number B.File.Slip.number order.now (B.stock loader.old.body).first
         loader.new.plan (B.full loader.new.body) (attempt + 1) turned) }
@@ -434,10 +411,7 @@ fn open_by<B: Grows, C: Conn<Slip = B::Slip>>(
     followed: u32,
     head: &AnswerHead,
 ) -> TurnOf<B>
-    requires ready { IsReady exchange.old }
-    requires told { IsSome exchange.old.reader.head }
-    requires number { C.number exchange.old.conn ≡ attempt }
-    requires tells { B.Site.tells ≡ true → C.tells ≡ true }
+    requires answer { IsHeaded C.Conn B.Site.tells attempt exchange.old }
     requires head { exchange.old.reader.head ≡ Some head.now }
     requires due { due exchange.old.reader ≡ due_told head.now }
     requires bounds { IsBounded head.now }
@@ -452,11 +426,11 @@ fn open_by<B: Grows, C: Conn<Slip = B::Slip>>(
     requires decides { IsVerdict B.Slip.number B.File.Slip.number order.now attempt head.now followed
         (verdict_told order.now attempt (if ranged then order.now.part else None) url followed head.now
         (place_of url exchange.old.reader.location)) decision }
-    requires allowed { B.Site.tells ≡ true → AllAllowed B.Site.Site (B.stock loader.old.body).path order.now loader.old.plan
+    requires allowed { MayTurn B.Site.Site (B.stock loader.old.body) order.now loader.old.plan
         (decides_told attempt (if ranged then order.now.part else None) url (drop next order.now.origins) followed head.now
         (left_of C.Conn exchange.old).body (left_of C.Conn exchange.old).outcome
         (verdict_told order.now attempt (if ranged then order.now.part else None) url followed head.now
-        (place_of url exchange.old.reader.location))).effects }
+        (place_of url exchange.old.reader.location))) }
     ensures turns { IfOk result (λ turned. B.Site.tells ≡ true → Turns B.Slip.number B.File.Slip.number order.now
         (decides_told attempt (if ranged then order.now.part else None) url (drop next order.now.origins) followed head.now
         (left_of C.Conn exchange.old).body (left_of C.Conn exchange.old).outcome
@@ -507,10 +481,7 @@ fn going<B: Grows, C: Conn<Slip = B::Slip>>(
     kept: WhyOf<B>,
     head: &AnswerHead,
 ) -> TurnOf<B>
-    requires ready { IsReady exchange.old }
-    requires told { IsSome exchange.old.reader.head }
-    requires number { C.number exchange.old.conn ≡ attempt }
-    requires tells { B.Site.tells ≡ true → C.tells ≡ true }
+    requires answer { IsHeaded C.Conn B.Site.tells attempt exchange.old }
     requires head { exchange.old.reader.head ≡ Some head.now }
     requires due { due exchange.old.reader ≡ due_told head.now }
     requires bounds { IsBounded head.now }
@@ -519,14 +490,14 @@ fn going<B: Grows, C: Conn<Slip = B::Slip>>(
     requires agrees { Agrees (B.seen loader.old.body) loader.old.plan }
     requires bounded { attempt < attempts_end }
     requires later { (B.stock loader.old.body).first ≤ attempt }
-    requires allowed { B.Site.tells ≡ true → AllAllowed B.Site.Site (B.stock loader.old.body).path order.now loader.old.plan
-        (headed_told order.now attempt (Going (url_of loader.old.plan) loader.old.plan.facts loader.old.plan.size
+    requires allowed { MayTurn B.Site.Site (B.stock loader.old.body) order.now loader.old.plan
+        (heads order.now attempt (Going (url_of loader.old.plan) loader.old.plan.facts loader.old.plan.size
         (shown_of B.Slip.number B.File.Slip.number (last_of loader.old.plan.label) kept)) head.now exchange.old.reader.location
-        (left_of C.Conn exchange.old).body (left_of C.Conn exchange.old).outcome).effects }
+        (left_of C.Conn exchange.old)) }
     ensures turns { IfOk result (λ turned. B.Site.tells ≡ true → Turns B.Slip.number B.File.Slip.number order.now
-        (headed_told order.now attempt (Going (url_of loader.old.plan) loader.old.plan.facts loader.old.plan.size
+        (heads order.now attempt (Going (url_of loader.old.plan) loader.old.plan.facts loader.old.plan.size
         (shown_of B.Slip.number B.File.Slip.number (last_of loader.old.plan.label) kept)) head.now exchange.old.reader.location
-        (left_of C.Conn exchange.old).body (left_of C.Conn exchange.old).outcome)
+        (left_of C.Conn exchange.old))
         loader.old.plan loader.new.plan turned) }
     ensures stands { IfOk result (λ turned. AfterIn B.Slip.number B.File.Slip.number order.now (B.stock loader.old.body).first
         loader.new.plan (B.full loader.new.body) (attempt + 1) turned) }
@@ -555,10 +526,7 @@ pub(crate) fn headed<B: Grows, C: Conn<Slip = B::Slip>>(
     attempt: u64,
     head: &AnswerHead,
 ) -> TurnOf<B>
-    requires ready { IsReady exchange.old }
-    requires told { IsSome exchange.old.reader.head }
-    requires number { C.number exchange.old.conn ≡ attempt }
-    requires tells { B.Site.tells ≡ true → C.tells ≡ true }
+    requires answer { IsHeaded C.Conn B.Site.tells attempt exchange.old }
     requires head { exchange.old.reader.head ≡ Some head.now }
     requires due { due exchange.old.reader ≡ due_told head.now }
     requires bounds { IsBounded head.now }
@@ -570,12 +538,12 @@ pub(crate) fn headed<B: Grows, C: Conn<Slip = B::Slip>>(
     requires later { (B.stock loader.old.body).first ≤ attempt }
     requires errand { (B.stock loader.old.body).errand ≡ order.now }
     requires keeps { ErrandKeeps B.Site.Site (B.stock loader.old.body).path attempt order.now }
-    requires allowed { B.Site.tells ≡ true → AllAllowed B.Site.Site (B.stock loader.old.body).path order.now loader.old.plan
-        (headed_told order.now attempt (stand_of B.Slip.number B.File.Slip.number order.now loader.old.plan standing) head.now
-        exchange.old.reader.location (left_of C.Conn exchange.old).body (left_of C.Conn exchange.old).outcome).effects }
+    requires allowed { MayTurn B.Site.Site (B.stock loader.old.body) order.now loader.old.plan
+        (heads order.now attempt (stand_of B.Slip.number B.File.Slip.number order.now loader.old.plan standing) head.now
+        exchange.old.reader.location (left_of C.Conn exchange.old)) }
     ensures turns { IfOk result (λ turned. B.Site.tells ≡ true → Turns B.Slip.number B.File.Slip.number order.now
-        (headed_told order.now attempt (stand_of B.Slip.number B.File.Slip.number order.now loader.old.plan standing) head.now
-        exchange.old.reader.location (left_of C.Conn exchange.old).body (left_of C.Conn exchange.old).outcome)
+        (heads order.now attempt (stand_of B.Slip.number B.File.Slip.number order.now loader.old.plan standing) head.now
+        exchange.old.reader.location (left_of C.Conn exchange.old))
         loader.old.plan loader.new.plan turned) }
     ensures stands { IfOk result (λ turned. AfterIn B.Slip.number B.File.Slip.number order.now (B.stock loader.old.body).first
         loader.new.plan (B.full loader.new.body) (attempt + 1) turned) }

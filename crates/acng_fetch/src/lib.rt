@@ -29,7 +29,6 @@ mod lead;
 mod load;
 mod loader;
 mod order;
-mod owned;
 mod standing;
 mod ticketed;
 
@@ -39,6 +38,5 @@ pub use law::{downloads_allowed, downloads_keep};
 pub use load::download;
 pub use loader::Loader;
 pub use order::{OldOrder, Order, PartOrder};
-pub use owned::{Owned, Supplies};
 pub use standing::{Standing, Turned};
 pub use ticketed::{Loaded, load_owned};

@@ -12,6 +12,7 @@ ghost use Rattle.acng_grow.specs.Download.{On, ask_of, begins, goes_on, left_of 
 ghost use Rattle.acng_answer.specs.Blocks.{IsBounded};
 ghost use Rattle.acng_grow.specs.Keeps.{attempts_end};
 ghost use Rattle.acng_grow.specs.Allowed.{AllAllowed};
+ghost use Rattle.acng_fetch.specs.Answering.{MayTurn};
 ghost use Rattle.acng_fetch.specs.Events.{IsReady, left_of};
 ghost use Rattle.acng_fetch.specs.Fits.{Fits};
 ghost use Rattle.acng_fetch.specs.Loads.{AfterIn, FaultsIn, IsEnded, IsFault, IsLoaded, IsTried, StandsIn, Turns, stand_of};
@@ -111,9 +112,9 @@ fn answered<B: Grows, C: Conn<Slip = B::Slip>>(
     requires bounded { attempt < attempts_end }
     requires later { (B.stock loader.old.body).first ≤ attempt }
     requires keeps { ErrandKeeps B.Site.Site (B.stock loader.old.body).path attempt order.now }
-    requires allowed { B.Site.tells ≡ true → AllAllowed B.Site.Site (B.stock loader.old.body).path order.now loader.old.plan
+    requires allowed { MayTurn B.Site.Site (B.stock loader.old.body) order.now loader.old.plan
         (turn order.now attempt
-        (stand_of B.Slip.number B.File.Slip.number order.now loader.old.plan standing) (left_of C.Conn exchange.old)).effects }
+        (stand_of B.Slip.number B.File.Slip.number order.now loader.old.plan standing) (left_of C.Conn exchange.old)) }
     ensures turns { IfOk result (λ turned. B.Site.tells ≡ true → Turns B.Slip.number B.File.Slip.number order.now
         (turn order.now attempt
         (stand_of B.Slip.number B.File.Slip.number order.now loader.old.plan standing) (left_of C.Conn exchange.old))
@@ -181,11 +182,11 @@ fn attempted<B: Grows, O: Origin<B::Site, Slip = B::Slip>>(
     requires bounded { attempt.number < attempts_end }
     requires later { (B.stock loader.old.body).first ≤ attempt.number }
     requires keeps { ErrandKeeps B.Site.Site (B.stock loader.old.body).path attempt.number order.now }
-    requires allowed { B.Site.tells ≡ true → AllAllowed B.Site.Site (B.stock loader.old.body).path order.now loader.old.plan
+    requires allowed { MayTurn B.Site.Site (B.stock loader.old.body) order.now loader.old.plan
         (turn order.now attempt.number
         (stand_of B.Slip.number B.File.Slip.number order.now loader.old.plan standing)
         (heard B.Site.Site attempt.number
-        (ask_of order.now (stand_of B.Slip.number B.File.Slip.number order.now loader.old.plan standing)))).effects }
+        (ask_of order.now (stand_of B.Slip.number B.File.Slip.number order.now loader.old.plan standing)))) }
     ensures turns { IfOk result (λ turned. B.Site.tells ≡ true → Turns B.Slip.number B.File.Slip.number order.now
         (turn order.now attempt.number
         (stand_of B.Slip.number B.File.Slip.number order.now loader.old.plan standing)
@@ -229,11 +230,11 @@ fn attempt_once<B: Grows, O: Origin<B::Site, Slip = B::Slip>>(
     requires agrees { Agrees (B.seen loader.old.body) loader.old.plan }
     requires errand { (B.stock loader.old.body).errand ≡ order.now }
     requires keeps { ErrandKeeps B.Site.Site (B.stock loader.old.body).path (B.stock loader.old.body).next order.now }
-    requires allowed { B.Site.tells ≡ true → AllAllowed B.Site.Site (B.stock loader.old.body).path order.now loader.old.plan
+    requires allowed { MayTurn B.Site.Site (B.stock loader.old.body) order.now loader.old.plan
         (turn order.now (B.stock loader.old.body).next
         (stand_of B.Slip.number B.File.Slip.number order.now loader.old.plan standing)
         (heard B.Site.Site (B.stock loader.old.body).next
-        (ask_of order.now (stand_of B.Slip.number B.File.Slip.number order.now loader.old.plan standing)))).effects }
+        (ask_of order.now (stand_of B.Slip.number B.File.Slip.number order.now loader.old.plan standing)))) }
     ensures turns { IfOk result (λ turned. B.Site.tells ≡ true → Turns B.Slip.number B.File.Slip.number order.now
         (turn order.now (B.stock loader.old.body).next
         (stand_of B.Slip.number B.File.Slip.number order.now loader.old.plan standing)

@@ -28,7 +28,7 @@ add-requires-clause-may g c =
     add_may g.B.Site.Site (g.B.Grows.stock s.loader.body).path p piece i.running.running small room
     (λ h.
     let left : left_of g.C.Conn s.exchange ≡ after_body piece (left_of g.C.Conn x)
-    = n.event (c.requires.tells h) ∙ ap (λ b. after_body b (left_of g.C.Conn x)) (sym is) in
+    = n.event (c.requires.answer.tells h) ∙ ap (λ b. after_body b (left_of g.C.Conn x)) (sym is) in
     (piece_of_left g.B.Site.Site (g.B.Grows.stock s.loader.body).path c.args.order.now c.args.attempt p piece (left_of g.C.Conn s.exchange)
     (left_of g.C.Conn x) some left (i.allowed h)).first)
 
@@ -55,7 +55,7 @@ loop-start-preserved g c =
     let old = left_of g.C.Conn s.exchange in
     let now = left_of g.C.Conn x in
     let left : g.B.Site.Site.tells ≡ true → old ≡ after_body piece now
-    = λ h. n.event (c.requires.tells h) ∙ ap (λ b. after_body b now) (sym is) in
+    = λ h. n.event (c.requires.answer.tells h) ∙ ap (λ b. after_body b now) (sym is) in
     let path = ap (λ k. k.path) a.stock in
     record {
       ready = n.ready;

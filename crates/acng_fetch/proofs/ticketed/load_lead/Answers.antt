@@ -1,10 +1,7 @@
 use Rattle.std.proofs.Common.{◌≡◌, ◌+◌, ◌-◌, true, IfSome, ap, sym, subst, ◌∙◌, arith}
 use Rattle.acng_grow.specs.Agrees.{label_agrees, cause_agrees}
-use Rattle.acng_grow.specs.Effects.{Errand}
 use Rattle.acng_desk.specs.Settles.{was_label}
 use Rattle.acng_desk.specs.Tickets.{IsOld, errand_of}
-use Rattle.acng_fetch.specs.Loads.{IsEnded}
-use Rattle.acng_fetch.proofs.Tests.{some_is}
 use Rattle.acng_fetch.proofs.LeadLemmas.{ticket_keeps, lead_ends, lead_cause, lead_label, lead_loaded, ended_at, loaded_at}
 use Rattle.acng_fetch.proofs.ticketed.load_lead.Goals as goal
 
@@ -25,7 +22,7 @@ returns-clause-info g c =
     let l = c.new-loader.result.body in
     let m = c.download.new.loader.body in
     let led = c.new-loader.ensures.body ∙ c.new-2.ensures in
-    sym (ap (λ l. l.ticket.info) c.into_parts.ensures.parts) ∙ some_is m.ticket.info l.ticket.info c.download.ensures.info
+    sym (ap (λ l. l.ticket.info) c.into_parts.ensures.parts) ∙ c.download.ensures.info
     ∙ ap (λ l. l.ticket.info) led
 
 pub returns-clause-ends : goal.returns-clause-ends
@@ -36,7 +33,7 @@ returns-clause-ends g c =
     let r = c.into_parts.result in
     let led = c.new-loader.ensures.body ∙ c.new-2.ensures in
     let parts = c.into_parts.ensures.parts in
-    let info = sym (ap (λ l. l.ticket.info) parts) ∙ some_is m.ticket.info l.ticket.info c.download.ensures.info
+    let info = sym (ap (λ l. l.ticket.info) parts) ∙ c.download.ensures.info
     ∙ ap (λ l. l.ticket.info) led in
     let plan = c.download.new.loader.plan in
     let seen = sym (ap (λ l. l.grown.seen) parts) ∙ c.download.ensures.agrees in
@@ -55,7 +52,7 @@ returns-clause-cause g c =
     let r = c.into_parts.result in
     let led = c.new-loader.ensures.body ∙ c.new-2.ensures in
     let parts = c.into_parts.ensures.parts in
-    let info = sym (ap (λ l. l.ticket.info) parts) ∙ some_is m.ticket.info l.ticket.info c.download.ensures.info
+    let info = sym (ap (λ l. l.ticket.info) parts) ∙ c.download.ensures.info
     ∙ ap (λ l. l.ticket.info) led in
     let plan = c.download.new.loader.plan in
     let seen = sym (ap (λ l. l.grown.seen) parts) ∙ c.download.ensures.agrees in
@@ -75,7 +72,7 @@ returns-clause-label g c =
     let r = c.into_parts.result in
     let led = c.new-loader.ensures.body ∙ c.new-2.ensures in
     let parts = c.into_parts.ensures.parts in
-    let info = sym (ap (λ l. l.ticket.info) parts) ∙ some_is m.ticket.info l.ticket.info c.download.ensures.info
+    let info = sym (ap (λ l. l.ticket.info) parts) ∙ c.download.ensures.info
     ∙ ap (λ l. l.ticket.info) led in
     let plan = c.download.new.loader.plan in
     let seen = sym (ap (λ l. l.grown.seen) parts) ∙ c.download.ensures.agrees in
@@ -97,7 +94,7 @@ returns-clause-loaded g c = λ h.
     let r = c.into_parts.result in
     let led = c.new-loader.ensures.body ∙ c.new-2.ensures in
     let parts = c.into_parts.ensures.parts in
-    let info = sym (ap (λ l. l.ticket.info) parts) ∙ some_is m.ticket.info l.ticket.info c.download.ensures.info
+    let info = sym (ap (λ l. l.ticket.info) parts) ∙ c.download.ensures.info
     ∙ ap (λ l. l.ticket.info) led in
     let plan = c.download.new.loader.plan in
     let seen = sym (ap (λ l. l.grown.seen) parts) ∙ c.download.ensures.agrees in
