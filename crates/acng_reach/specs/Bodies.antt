@@ -4,8 +4,11 @@ use Rattle.std.specs.List.{slice_get}
 use Rattle.std.specs.Ordering.{nat_cmp, is_lt}
 use Rattle.std.specs.Cmp.Lexicographic.{slice_cmp}
 use Rattle.acng_base.specs.Paths.{path_refusal}
+use Rattle.acng_keeper.specs.Kept.{Stored}
+use Rattle.acng_keeper.specs.declared.effect.Effect.{Effect}
 use Rattle.acng_keeper.specs.declared.slip.KeepFault.{KeepFault}
 use Rattle.acng_keeper.specs.declared.slip.KeepFault.TheVariants.{Slip, NoMemory}
+use Rattle.acng_desk.specs.House.{Plain}
 use Rattle.acng_reach.specs.Sets.{among}
 
 -- the second text is above the first, in byte order
@@ -31,3 +34,11 @@ pub record ArePaths (paths : List (List ℕ)) : Type 0 where
 abbrev pub MaySlip : {P : Type 0} → Bool → KeepFault P → Type 0
 MaySlip may (Slip p) = may ≡ true
 MaySlip may NoMemory = Unit {0}
+
+-- What reading leaves as it is: what a desk knows and, as far as it is told, its heads, its sealed bodies and the effects
+-- so far. Beside it stands whether calls may fail.
+pub record Rest : Type 0 where
+  pub plain : Plain
+  pub stored : Stored
+  pub trail : List Effect
+  pub may_slip : Bool

@@ -1,5 +1,6 @@
 pub mod Bodies
 pub mod Caches
+pub mod Desks
 pub mod Found
 pub mod Names
 pub mod Paths

@@ -3,7 +3,7 @@ ghost use Rattle.std.specs.Prelude.{◌≡◌, Bool, true, List, ℕ, IfOk, OnOk
 ghost use Rattle.std.specs.Option.{option_copied};
 ghost use Rattle.acng_reach.specs.Caches.{Cache, is_held};
 ghost use Rattle.acng_reach.specs.Sets.{Rises};
-ghost use Rattle.acng_reach.specs.Bodies.{first_above, last_of, MaySlip, ArePaths};
+ghost use Rattle.acng_reach.specs.Bodies.{Rest, first_above, last_of, MaySlip, ArePaths};
 
 use acng_base::{CachePath, NoMemory};
 use acng_keeper::KeepFault;
@@ -18,8 +18,8 @@ pub trait Bodies: Drop {
 
     ghost cache: { Self → Cache };
 
-    /// Whether a call may slip.
-    ghost may_slip: { Self → Bool };
+    /// What reading leaves as it is, and whether a call may slip.
+    ghost rest: { Self → Rest };
 
     /// The least held path, or the least above another.
     fn next_path(&self, after: Option<&CachePath>) -> Option<&CachePath>
@@ -40,9 +40,9 @@ pub trait Bodies: Drop {
         ensures text { OnOk result (tells ≡ true → text.new.items ≡ (cache self.old).text path.now) }
 
         // A refusal, and what any answer leaves.
-        ensures cause { IfErr result (MaySlip (may_slip self.old)) }
+        ensures cause { IfErr result (MaySlip (rest self.old).may_slip) }
         ensures same { cache self.new ≡ cache self.old }
-        ensures same_slips { may_slip self.new ≡ may_slip self.old };
+        ensures rests { rest self.new ≡ rest self.old };
 }
 
 /// Copies of all held paths, in byte order.

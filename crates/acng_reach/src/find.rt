@@ -33,9 +33,9 @@ pub fn find_indexes<B: Bodies>(
     ensures indexes { IfOk result (λ xs. B.tells ≡ true → xs.items ≡ indexes (B.cache bodies.old)) }
 
     // A refusal, and what any answer leaves.
-    ensures cause { IfErr result (MaySlip (B.may_slip bodies.old)) }
+    ensures cause { IfErr result (MaySlip (B.rest bodies.old).may_slip) }
     ensures same { B.cache bodies.new ≡ B.cache bodies.old }
-    ensures same_slips { B.may_slip bodies.new ≡ B.may_slip bodies.old }
+    ensures rests { B.rest bodies.new ≡ B.rest bodies.old }
 {
     let mut text = Vec::new(alloc);
     let mut found = Vec::new(alloc);
@@ -59,9 +59,9 @@ fn add_index<B: Bodies>(
     requires are_paths { ArePaths (B.cache bodies.old).paths }
     ensures added { OnOk result (B.tells ≡ true →
         found.new.items ≡ found.old.items ++ found_at (B.cache bodies.old) path.now) }
-    ensures cause { IfErr result (MaySlip (B.may_slip bodies.old)) }
+    ensures cause { IfErr result (MaySlip (B.rest bodies.old).may_slip) }
     ensures same { B.cache bodies.new ≡ B.cache bodies.old }
-    ensures same_slips { B.may_slip bodies.new ≡ B.may_slip bodies.old }
+    ensures rests { B.rest bodies.new ≡ B.rest bodies.old }
 {
     let Ok(current) = is_current(alloc, bodies, path) else {
         return Err(KeepFault::NoMemory);
@@ -114,9 +114,9 @@ fn read_index<B: Bodies>(
     requires held { is_held (B.cache bodies.old) path.now ≡ true }
     requires are_paths { ArePaths (B.cache bodies.old).paths }
     ensures index { IfOk result (λ x. B.tells ≡ true → x ≡ index_at (B.cache bodies.old) path.now) }
-    ensures cause { IfErr result (MaySlip (B.may_slip bodies.old)) }
+    ensures cause { IfErr result (MaySlip (B.rest bodies.old).may_slip) }
     ensures same { B.cache bodies.new ≡ B.cache bodies.old }
-    ensures same_slips { B.may_slip bodies.new ≡ B.may_slip bodies.old }
+    ensures rests { B.rest bodies.new ≡ B.rest bodies.old }
 {
     let list = match read_list(alloc, bodies, text, path) {
         Ok(list) => list,
@@ -139,9 +139,9 @@ fn read_list<B: Bodies>(
     requires are_paths { ArePaths (B.cache bodies.old).paths }
     ensures list { IfOk result (λ list. B.tells ≡ true → list ≡ option_map (list_by (B.cache bodies.old) (folder_of path.now))
         (read_by_name path.now ((B.cache bodies.old).text path.now))) }
-    ensures cause { IfErr result (MaySlip (B.may_slip bodies.old)) }
+    ensures cause { IfErr result (MaySlip (B.rest bodies.old).may_slip) }
     ensures same { B.cache bodies.new ≡ B.cache bodies.old }
-    ensures same_slips { B.may_slip bodies.new ≡ B.may_slip bodies.old }
+    ensures rests { B.rest bodies.new ≡ B.rest bodies.old }
 {
     if let Err(fault) = bodies.read(alloc, path, text) {
         return Err(fault);
@@ -189,9 +189,9 @@ fn list_of<B: Bodies>(
 ) -> Result<Lists, KeepFault<B::Slip>>
     requires { ArePaths (B.cache bodies.old).paths }
     ensures list { IfOk result (λ list. B.tells ≡ true → list ≡ list_by (B.cache bodies.old) folder.now release.now) }
-    ensures cause { IfErr result (MaySlip (B.may_slip bodies.old)) }
+    ensures cause { IfErr result (MaySlip (B.rest bodies.old).may_slip) }
     ensures same { B.cache bodies.new ≡ B.cache bodies.old }
-    ensures same_slips { B.may_slip bodies.new ≡ B.may_slip bodies.old }
+    ensures rests { B.rest bodies.new ≡ B.rest bodies.old }
 {
     let entries = release.entries();
     let mut items = Vec::new(alloc);
@@ -216,9 +216,9 @@ fn listed_of<B: Bodies>(
 ) -> Result<Listed, KeepFault<B::Slip>>
     requires { ArePaths (B.cache bodies.old).paths }
     ensures listed { IfOk result (λ l. B.tells ≡ true → l ≡ listed_by (B.cache bodies.old) folder.now entry.now) }
-    ensures cause { IfErr result (MaySlip (B.may_slip bodies.old)) }
+    ensures cause { IfErr result (MaySlip (B.rest bodies.old).may_slip) }
     ensures same { B.cache bodies.new ≡ B.cache bodies.old }
-    ensures same_slips { B.may_slip bodies.new ≡ B.may_slip bodies.old }
+    ensures rests { B.rest bodies.new ≡ B.rest bodies.old }
 {
     let names = match names_of(alloc, bodies, text, folder, entry) {
         Ok(names) => names,
@@ -245,9 +245,9 @@ fn names_of<B: Bodies>(
 ) -> Result<Option<Names>, KeepFault<B::Slip>>
     requires { ArePaths (B.cache bodies.old).paths }
     ensures names { IfOk result (λ names. B.tells ≡ true → names ≡ names_of (B.cache bodies.old) folder.now entry.now) }
-    ensures cause { IfErr result (MaySlip (B.may_slip bodies.old)) }
+    ensures cause { IfErr result (MaySlip (B.rest bodies.old).may_slip) }
     ensures same { B.cache bodies.new ≡ B.cache bodies.old }
-    ensures same_slips { B.may_slip bodies.new ≡ B.may_slip bodies.old }
+    ensures rests { B.rest bodies.new ≡ B.rest bodies.old }
 {
     if !is_packages(entry.path.as_bytes()) {
         return Ok(None);
@@ -275,9 +275,9 @@ fn names_at<B: Bodies>(
 ) -> Result<Option<Names>, KeepFault<B::Slip>>
     requires { ArePaths (B.cache bodies.old).paths }
     ensures names { IfOk result (λ names. B.tells ≡ true → names ≡ names_at (B.cache bodies.old) entry.now place.items) }
-    ensures cause { IfErr result (MaySlip (B.may_slip bodies.old)) }
+    ensures cause { IfErr result (MaySlip (B.rest bodies.old).may_slip) }
     ensures same { B.cache bodies.new ≡ B.cache bodies.old }
-    ensures same_slips { B.may_slip bodies.new ≡ B.may_slip bodies.old }
+    ensures rests { B.rest bodies.new ≡ B.rest bodies.old }
 {
     let Ok(path) = CachePath::of(place) else {
         return Ok(None);

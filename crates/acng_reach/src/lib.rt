@@ -5,6 +5,7 @@
 #![tactic(auto)]
 
 mod bodies;
+mod desk;
 mod find;
 mod index;
 mod name;
@@ -14,6 +15,6 @@ mod reach;
 mod reached;
 mod set;
 
-pub use bodies::Bodies;
+pub use bodies::{Bodies, held_paths};
 pub use index::{Index, Listed, Lists};
 pub use reach::Reach;

@@ -1,6 +1,7 @@
 //! What the held indexes reach and name, and which folders are problems, in one object.
 ghost use Rattle.std.specs.Prelude.{◌≡◌, true, List, ℕ, IfOk, IfErr};
 ghost use Rattle.acng_reach.specs.Bodies.{ArePaths, MaySlip};
+ghost use Rattle.acng_reach.specs.Desks.{held_paths, cache_of, rest_of};
 ghost use Rattle.acng_reach.specs.Found.{IsFound, IsReach};
 ghost use Rattle.acng_reach.specs.Paths.{IsPath};
 ghost use Rattle.acng_reach.specs.Reaches.{is_named};
@@ -14,7 +15,9 @@ use crate::problems::problem_folders;
 use crate::reached::reached_paths;
 use crate::set::TextSet;
 use acng_base::{CachePath, Hash, NoMemory, Texts};
-use acng_keeper::KeepFault;
+use acng_desk::{Desk, Joint};
+use acng_keeper::{KeepFault, Keeper, SlipOf};
+use acng_site::Site;
 use std::alloc::Global;
 use std::marker::Model;
 
@@ -41,6 +44,23 @@ impl Model for Reach {
 }
 
 impl Reach {
+    /// What the whole bodies of a desk reach and name, and the folders that are problems, those of failed paths among them.
+    pub fn of<S: Site, K: Keeper, T: Joint>(
+        alloc: Global,
+        desk: &mut Desk<S, K, T>,
+        failed: &[CachePath],
+    ) -> Result<Reach, KeepFault<SlipOf<K>>>
+        ensures reach { IfOk result (λ r. K.tells ≡ true → IsReach (cache_of K.tells desk.old) failed.now r) }
+        ensures held { IfOk result (λ r. r.held ≡ held_paths desk.old.plain.rows) }
+        ensures in_order { IfOk result (λ r. Rises r.held) }
+
+        // A refusal, and what any answer leaves.
+        ensures cause { IfErr result (MaySlip desk.old.faults.may_fail) }
+        ensures rests { rest_of K.tells desk.new ≡ rest_of K.tells desk.old }
+    {
+        Reach::over(alloc, desk, failed)
+    }
+
     /// Reads each current index, and each list of packages that one names, once.
     pub fn over<B: Bodies>(
         alloc: Global,
@@ -52,9 +72,9 @@ impl Reach {
         ensures in_order { IfOk result (λ r. Rises r.held) }
 
         // A refusal, and what any answer leaves.
-        ensures cause { IfErr result (MaySlip (B.may_slip bodies.old)) }
+        ensures cause { IfErr result (MaySlip (B.rest bodies.old).may_slip) }
         ensures same { B.cache bodies.new ≡ B.cache bodies.old }
-        ensures same_slips { B.may_slip bodies.new ≡ B.may_slip bodies.old }
+        ensures rests { B.rest bodies.new ≡ B.rest bodies.old }
     {
         let held = match held_paths(alloc, bodies) {
             Ok(held) => held,

@@ -7,5 +7,5 @@ abbrev pub invariant-loop-i : goal.invariant-loop-i
 invariant-loop-i g l = record {
   found : g.B.Bodies.tells ≡ true → l.found.items ≡ flat_map (found_at (g.B.Bodies.cache l.fn.bodies)) (take l.i l.held);
   same : g.B.Bodies.cache l.bodies ≡ g.B.Bodies.cache l.fn.bodies;
-  same_slips : g.B.Bodies.may_slip l.bodies ≡ g.B.Bodies.may_slip l.fn.bodies;
+  rests : g.B.Bodies.rest l.bodies ≡ g.B.Bodies.rest l.fn.bodies;
 }

@@ -21,5 +21,5 @@ loop-i-preserved g c =
           ∙ ap (λ (x : Listed). front ++ x ∷ []) listed
           ∙ sym (map_push (listed_by cache folder) entries i entry c.loop-i-test.true c.index-entries-i.is);
       same = c.in-Ok.ensures.same ∙ old.same;
-      same_slips = c.in-Ok.ensures.same_slips ∙ old.same_slips;
+      rests = c.in-Ok.ensures.rests ∙ old.rests;
     }

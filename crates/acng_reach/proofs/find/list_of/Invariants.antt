@@ -6,5 +6,5 @@ abbrev pub invariant-loop-i : goal.invariant-loop-i
 invariant-loop-i g l = record {
   items : g.B.Bodies.tells ≡ true → l.items.items ≡ map (listed_by (g.B.Bodies.cache l.fn.bodies) l.folder) (take l.i l.entries);
   same : g.B.Bodies.cache l.bodies ≡ g.B.Bodies.cache l.fn.bodies;
-  same_slips : g.B.Bodies.may_slip l.bodies ≡ g.B.Bodies.may_slip l.fn.bodies;
+  rests : g.B.Bodies.rest l.bodies ≡ g.B.Bodies.rest l.fn.bodies;
 }
