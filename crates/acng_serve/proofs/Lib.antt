@@ -5,4 +5,7 @@ pub mod Filing
 pub mod Frees
 pub mod Headlines
 mod Rows
+pub mod Rules
 pub mod Sendings
+pub mod Stills
+pub mod Turnings

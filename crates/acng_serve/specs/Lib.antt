@@ -6,4 +6,6 @@ pub mod Headline
 pub mod Houses
 pub mod Lawful
 pub mod Notes
+pub mod Sessions
+pub mod Turns
 pub mod Ways

@@ -56,11 +56,36 @@ pub fn answer_one<S: Site, K: Keeper, O: Origin<S>, C: Clock, L: Link>(
     ensures answers { AnswersOne S.Site K.tells conf.now (manner_of true request.now) request.now (C.coming clock.old) (C.coming clock.new)
         desk.old desk.new result (sent_by L.Link client.old client.new) }
     ensures idle { IsIdle desk.new.plain }
+    ensures rules { desk.new.plain.rules ≡ desk.old.plain.rules }
+    ensures others { Keeps (L.left client.old) (L.left client.new) }
+    ensures fault { LinkTold result (L.faults client.old) (L.faults client.new) }
+{
+    let manner = Manner::of(request).closing();
+    answer_in(alloc, desk, conf, origin, clock, manner, request, client)
+}
+
+/// Answers one request in a manner. The moment is taken first.
+pub(crate) fn answer_in<S: Site, K: Keeper, O: Origin<S>, C: Clock, L: Link>(
+    alloc: Global,
+    desk: &mut Desk<S, K, ()>,
+    conf: &Conf,
+    origin: &O,
+    clock: &mut C,
+    manner: Manner,
+    request: &Request,
+    client: &mut L,
+) -> Note<SlipOf<K>>
+    requires idle { IsIdle desk.old.plain }
+    requires serves { S.tells ≡ true → ServesTargets conf.now S.serves }
+    requires honest { S.tells ≡ true → IsHonest S.Site }
+    ensures answers { AnswersOne S.Site K.tells conf.now manner request.now (C.coming clock.old) (C.coming clock.new)
+        desk.old desk.new result (sent_by L.Link client.old client.new) }
+    ensures idle { IsIdle desk.new.plain }
+    ensures rules { desk.new.plain.rules ≡ desk.old.plain.rules }
     ensures others { Keeps (L.left client.old) (L.left client.new) }
     ensures fault { LinkTold result (L.faults client.old) (L.faults client.new) }
 {
     let now = clock.now();
-    let manner = Manner::of(request).closing();
     answer_at(alloc, desk, conf, origin, now, manner, request, client)
 }
 

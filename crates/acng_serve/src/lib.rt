@@ -3,15 +3,20 @@
 //! A request is read as a target, its file's class is looked up, and the desk lets it in: a held body is sent, or a body is
 //! loaded and then sent. What is told of the reply is a `Note`: its cause, and by which body and for which path it was let
 //! in. The whole answer is a function of the request, the configuration, what the desk has, the site and one moment; it
-//! yields to a failed call of the keeper, a failed link and want of memory.
+//! yields to a failed call of the keeper, a failed link and want of memory. A session answers the requests of a connection so,
+//! one after another.
 #![tactic(auto)]
 
 mod answer;
 mod file;
 mod note;
+mod notes;
 mod refuse;
+mod session;
 mod way;
 
 pub use answer::answer_one;
 pub use note::{Cause, Note};
+pub use notes::{Notes, SessionEnd, SessionStop};
 pub use refuse::answer_unread;
+pub use session::session_owned;

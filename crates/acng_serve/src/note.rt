@@ -1,6 +1,6 @@
 //! What is told of a reply.
 ghost use Rattle.std.specs.Prelude.{◌≡◌};
-ghost use Rattle.acng_serve.specs.Causes.{line_of, target_cause as target_cause_of};
+ghost use Rattle.acng_serve.specs.Causes.{line_of, is_client_fault, target_cause as target_cause_of};
 
 use acng_base::PathFault;
 use acng_desk::{Brim, Entry};
@@ -81,6 +81,13 @@ impl<Q> Cause<Q> {
             TargetFault::Query => Cause::Query,
             TargetFault::BadPath(fault) => Cause::BadPath(fault),
         }
+    }
+
+    /// Whether the client's link failed.
+    pub fn is_client_fault(&self) -> bool
+        ensures { result ≡ is_client_fault self.now }
+    {
+        matches!(self, Cause::ClientFault)
     }
 
     /// The line of a reply that has one. A file's reply has none, and what a link took before it failed isn't told here.
