@@ -10,5 +10,5 @@ unreachable-requires g c =
     let p = c.args.self.now.plain in
     let path = c.args.path.now in
     let cause = subst (λ f. RowRose f (whole_at p.rows path) c.args.self.now.faults c.fetch.new.self.faults) c.in-Err-NotHeld.field-0-is
-        c.in-Err-NotHeld.ensures.cause in
+    c.in-Err-NotHeld.ensures.cause in
     not_held p.rows path c.requires cause
