@@ -7,6 +7,8 @@ run:
 test:
 	rt ci
 	bash tests/loopback.sh
+	bash tests/cache.sh
+	bash tests/apt.sh
 	bash tests/check_conf.sh
 	bash tests/folder_syncs.sh
 	bash tests/debian_index.sh

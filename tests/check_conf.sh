@@ -3,11 +3,9 @@
 # What is printed is compared byte for byte, and the status too.
 set -u
 cd "$(dirname "$0")/.." || exit 1
-program=$PWD/crates/acng/out/acng
-[ -x "$program" ] || (cd crates/acng && rt run -- once < stdin > /dev/null 2>&1)
-[ -x "$program" ] || { echo "check_conf: the program isn't built"; exit 1; }
-work=$(mktemp -d)
-trap 'rm -rf "$work"' EXIT
+check=check_conf
+. tests/common.sh
+build
 cp -r tests/check-conf "$work/conf"
 mkdir "$work/empty"
 # Neither is a list file: a folder, and a link to nothing, as editors leave beside a file.
@@ -16,7 +14,6 @@ ln -s nowhere "$work/conf/groups/.#acng.conf"
 # Nor is a name that isn't UTF-8, where the file system takes one.
 : > "$work/conf/groups/"$'mirrors_\xff' 2> /dev/null
 
-failed=0
 # expect FOLDER STATUS TEXT WORD..: the program's status and output, run in that folder
 expect() {
     local folder=$1 status=$2 text=$3

@@ -7,11 +7,16 @@
 use acng_base::{FileFault, Text, named};
 use acng_conf::ListFile;
 use std::alloc::Global;
-use std::fs;
 use std::fs::File;
 use std::io::ErrorKind;
 use std::path::AsPath;
 use std::rt::Files;
+use std::{fs, str};
+
+/// A path of the words. Words are UTF-8, or they aren't read.
+pub fn path_of(path: &Text) -> &str {
+    str::from_utf8(path.as_bytes()).unwrap_or("")
+}
 
 /// The configuration file. None where it isn't there under its default name.
 pub fn open_conf(

@@ -1,39 +1,49 @@
 //! The program `acng`.
 //!
-//! `acng once` reads one request from standard input, makes one attempt at the origin over TCP, and writes the reply to
-//! standard output. `acng check-conf` reads a configuration and prints what is wrong with it. This file only hands the
-//! words, the streams, the files and the sockets over: what is done is `run_single`'s and `run_maint`'s.
+//! `acng once` reads one request from standard input, answers it from the cache folder or by asking the origins over TCP,
+//! and writes the reply to standard output. `acng check-conf` reads a configuration and prints what is wrong with it. This
+//! file only hands the words, the streams, the files and the sockets over: what is done is `run_single`'s and
+//! `run_maint`'s.
 #![tactic(auto)]
 
+mod cache;
 mod files;
 
-use acng_base::{FileFault, NoMemory, StdLink, StdSink, StdSource, Text};
-use acng_cli::status::{FAILED, NO_MEMORY};
-use acng_cli::{Command, WordsFault, read_words, run_maint, run_single};
+use acng_base::{FileFault, HostClock, NoMemory, Source, StdLink, StdSink, StdSource, Text};
+use acng_cli::status::{DONE, FAILED, KEEPER, NO_MEMORY};
+use acng_cli::{Command, Words, WordsFault, read_words, run_maint, run_single};
+use acng_conf::ListFile;
+use acng_keeper::OpenFault;
 use acng_site::NetOrigin;
-use files::{lists_beside, open_conf};
+use cache::open_cache;
+use files::{lists_beside, open_conf, path_of};
 use std::alloc::Global;
 use std::process::ExitCode;
-use std::{env, io, str};
+use std::{env, io};
 
 fn main(rt: HostRuntime) -> ExitCode {
     let Ok(words) = words_of(&rt) else {
         return ExitCode::from(NO_MEMORY);
     };
-    ExitCode::from(run(rt, &words))
+    ExitCode::from(run(&rt, &words))
 }
 
 // Runs the command that the words name. What is wrong with other words is printed.
-fn run(rt: HostRuntime, words: &[Text]) -> u8 {
+fn run(rt: &HostRuntime, words: &[Text]) -> u8 {
     let read = match read_words(rt.alloc(), words) {
         Ok(read) => read,
         Err(WordsFault::NoMemory) => return NO_MEMORY,
-        Err(_) => return over_nothing(&rt, words),
+        Err(_) => return over_nothing(rt, words),
     };
-    match read.command {
-        Command::Once => answer(rt, words),
-        Command::CheckConf => check_conf(&rt, words, &read.conf),
-        _ => over_nothing(&rt, words),
+    let status = match read.command {
+        Command::Once => answer(rt, words, &read),
+        Command::CheckConf => check_conf(rt, words, &read.conf),
+        _ => Ok(over_nothing(rt, words)),
+    };
+    match status {
+        Ok(status) => status,
+        Err(FileFault::Failed) => FAILED,
+        Err(FileFault::NoMemory) => NO_MEMORY,
     }
 }
 
@@ -52,27 +62,70 @@ fn words_of(rt: &HostRuntime) -> Result<Vec<Text>, NoMemory> {
     Ok(words)
 }
 
+// ---- once
+
 // One request of the standard streams.
-fn answer(rt: HostRuntime, words: &[Text]) -> u8 {
-    let alloc = rt.alloc();
-    let mut client = StdLink::new(rt.stdin(), rt.stdout());
-    let (origin, mut right) = NetOrigin::start(rt);
-    let (status, _) = run_single(alloc, words, &mut right, &origin, &mut client);
-    status
+fn answer(rt: &HostRuntime, words: &[Text], read: &Words) -> Result<u8, FileFault> {
+    let path = path_of(&read.conf);
+    let Some(file) = open_conf(rt, path, !words.iter().any(is_conf_option))? else {
+        return answer_by(rt, words, &read.cache, StdSource::new(io::empty()), &[]);
+    };
+    let lists = lists_beside(rt, rt.alloc(), path)?;
+    answer_by(rt, words, &read.cache, StdSource::new(file), &lists)
 }
 
-// What is wrong with the configuration, printed to standard output.
-fn check_conf(rt: &HostRuntime, words: &[Text], path: &Text) -> u8 {
-    match over_files(rt, words, path) {
-        Ok(status) => status,
-        Err(FileFault::Failed) => FAILED,
-        Err(FileFault::NoMemory) => NO_MEMORY,
+// The same by a configuration. A folder that can't be opened is said so only where nothing is wrong with that.
+fn answer_by<I: Source + Drop>(
+    rt: &HostRuntime,
+    words: &[Text],
+    folder: &Text,
+    conf: I,
+    lists: &[ListFile],
+) -> Result<u8, FileFault> {
+    let alloc = rt.alloc();
+    let mut conf = conf;
+    let keeper = match open_cache(rt, path_of(folder)) {
+        Ok(keeper) => keeper,
+        Err(OpenFault::NoMemory) => return Err(FileFault::NoMemory),
+        Err(_) => return without_cache(alloc, &mut conf, lists),
+    };
+    let (origin, right) = NetOrigin::start(rt.clone()?);
+    let mut clock = HostClock::new(rt.clone()?);
+    let mut client = StdLink::new(rt.stdin(), rt.stdout());
+    let single = run_single(
+        alloc,
+        words,
+        keeper,
+        right,
+        &mut conf,
+        lists,
+        &origin,
+        &mut clock,
+        &mut client,
+    );
+    Ok(single.status)
+}
+
+// The status where the cache folder can't be opened: that of a configuration that is refused goes first.
+fn without_cache<I: Source>(
+    alloc: Global,
+    conf: &mut I,
+    lists: &[ListFile],
+) -> Result<u8, FileFault> {
+    let words = [Text::copy(alloc, b"check-conf")?];
+    let mut nowhere = StdSink::new(io::sink());
+    match run_maint(alloc, &words, conf, lists, &mut nowhere) {
+        DONE => Ok(KEEPER),
+        status => Ok(status),
     }
 }
 
-fn over_files(rt: &HostRuntime, words: &[Text], path: &Text) -> Result<u8, FileFault> {
+// ---- check-conf
+
+// What is wrong with the configuration, printed to standard output.
+fn check_conf(rt: &HostRuntime, words: &[Text], path: &Text) -> Result<u8, FileFault> {
     let alloc = rt.alloc();
-    let path = str::from_utf8(path.as_bytes()).unwrap_or("");
+    let path = path_of(path);
     let Some(file) = open_conf(rt, path, !words.iter().any(is_conf_option))? else {
         return Ok(over_nothing(rt, words));
     };

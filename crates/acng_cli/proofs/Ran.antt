@@ -1,130 +1,109 @@
 -- What a run of `once` says, in each of its cases.
-use Rattle.std.proofs.Common.{◌≡◌, ℕ, ◌+◌, ◌≤◌, ◌⊎◌, inl, inr, List, [], ◌∷◌, Option, Some, None, Result, Ok, Err, IfSome, refl, ap, sym, ◌∙◌, subst, arith}
-use Rattle.std.specs.List.{Contains}
-use Rattle.std.proofs.lemmas.List.Elements.{Contains-get_or}
+use Rattle.std.proofs.Common.{◌≡◌, ℕ, ◌⊎◌, inl, inr, Bool, true, List, [], Option, Some, None, IfSome, refl, sym, subst, ap}
+use Rattle.std.specs.Io.KnownBytes.{Keeps}
 use Rattle.acng_base.specs.declared.link.Link.{Ghosts as LinkGhosts}
 use Rattle.acng_site.specs.declared.site.Site.{Ghosts as SiteGhosts}
-use Rattle.acng_remap.specs.Readings.{reading}
-use Rattle.acng_remap.specs.declared.target.Target.{Target}
-use Rattle.acng_remap.specs.declared.target.Target.TheVariants.{File, Page}
-use Rattle.acng_remap.specs.declared.target.TargetFault.{TargetFault}
-use Rattle.acng_remap.specs.declared.target.TargetFault.TheVariants as fault
+use Rattle.acng_conf.specs.Settings.{Settings}
 use Rattle.acng_request.specs.Nexts.{Next, next, Asks, Refuses, Ends}
 use Rattle.acng_request.specs.declared.got.Request.{Request}
 use Rattle.acng_request.specs.declared.got.HeadFault.{HeadFault}
-use Rattle.acng_request.specs.declared.got.HeadFault.TheVariants.{BadHead, TooLarge, Method, HasBody}
-use Rattle.acng_cli.specs.declared.manner.Manner.{Manner}
-use Rattle.acng_cli.specs.declared.note.Note.{Note}
-use Rattle.acng_cli.specs.declared.note.Once.{Once}
-use Rattle.acng_cli.specs.Lines.{line_of, head_line}
-use Rattle.acng_cli.specs.Replies.{Sends, reply_to, manner_of}
-use Rattle.acng_cli.specs.Runs.{answer_of, ask_of}
-use Rattle.acng_cli.specs.Ways.{empty, way_of, way_to, refusal_of}
-use Rattle.acng_cli.specs.Once.{Outside, AnswersWay, Answered, RefusesHead, EndsUnread, IsHindered, IsHonestHouse, RunsBy, Replied, AnswersOrLacks, SendsFileOf, RanOnce}
-use Rattle.acng_cli.proofs.Cases.{if_all, if_also}
-use Rattle.acng_cli.proofs.Fronts.{sends_front}
+use Rattle.acng_reply.specs.Manners.{manner_of, unread}
+use Rattle.acng_reply.specs.Replies.{sent_by}
+use Rattle.acng_serve.specs.declared.note.Cause.{Cause}
+use Rattle.acng_serve.specs.declared.note.Cause.TheVariants as cause
+use Rattle.acng_serve.specs.declared.note.Note.{Note}
+use Rattle.acng_serve.specs.Notes.{LinkTold}
+use Rattle.acng_cli.specs.declared.once.Once.{Once}
+use Rattle.acng_cli.specs.declared.once.OnceStop.TheVariants as stop
+use Rattle.acng_cli.specs.Once.{Outside, Replied, Answered, Lined, EndsUnread, IsHindered, IsFileStatus, SendsFileOf, RanOnce}
+use Rattle.acng_cli.proofs.FileNotes.{not_lined, names_file}
+use Rattle.acng_cli.proofs.Cases.{if_also}
 
--- no refusal has the status of a file
-head_other : (f : HeadFault) → (head_line f).status ≡ 200 → ⊥
-head_other BadHead e = omega arith
-head_other TooLarge e = omega arith
-head_other Method e = omega arith
-head_other HasBody e = omega arith
+-- a reply that was made since the request was read
+pub replied_since : {L Q : Type 0} (l : LinkGhosts L) (old mid new : L) (once : Once Q) (note : Note Q) → once ≡ record { note = Some note; stop = stop.Replied }
+    → Keeps (l.written old) (l.written mid) → l.faults mid ≡ l.faults old → LinkTold note (l.faults mid) (l.faults new)
+    → Replied l old new once note (sent_by l mid new)
+replied_since l old mid new once note is kept worked told = record {
+  stop = ap (λ o. o.stop) is;
+  noted = ap (λ o. o.note) is;
+  since = record { kept = kept; now = refl; before = worked; after = refl };
+  told = told;
+}
 
-target_other : (f : TargetFault) → (line_of (refusal_of f)).status ≡ 200 → ⊥
-target_other fault.NoMemory e = omega arith
-target_other fault.Connect e = omega arith
-target_other fault.Tls e = omega arith
-target_other fault.BadTarget e = omega arith
-target_other fault.Query e = omega arith
-target_other (fault.BadPath f) e = omega arith
+-- what known bytes ask next; of others nothing is told
+abbrev asked_in : Option (List ℕ) → Next
+asked_in None = Ends
+asked_in (Some bytes) = next bytes
 
-module _ {S L : Type 0} (s : SiteGhosts S) (l : LinkGhosts L) (old new : Outside L) (once : Once)
-    (later : l.faults old.client ≤ l.faults new.client) where
-  abbrev Ran : Type 0
-  Ran = RanOnce s l old new once
+told_in : (o : Option (List ℕ)) → IfSome o (λ bytes. asked_in o ≡ next bytes)
+told_in None = tt
+told_in (Some bytes) = refl
 
+-- the bytes that are left behind a request
+rest_in : (r : Request) (o : Option (List ℕ)) → IfSome o (λ bytes. (rest : List ℕ) × (next bytes ≡ Asks r rest))
+    → (rest : List ℕ) × IfSome o (λ bytes. Asks r rest ≡ next bytes)
+rest_in r None asked = ([], tt)
+rest_in r (Some bytes) (rest, is) = (rest, sym is)
+
+module _ {S L Q : Type 0} (s : SiteGhosts S) (tells : Bool) (l : LinkGhosts L) (conf : Settings) (old new : Outside L) (once : Once Q) where
   abbrev left : Option (List ℕ)
   left = l.left old.client
 
-  abbrev Runs : List ℕ → Type 0
-  Runs b = RunsBy s l (next b) once old new ⊎ IsHindered l once old new
+  abbrev Headline : Type 0
+  Headline = s.tells ≡ true → tells ≡ true → (note : Note Q) → once.note ≡ Some note → IsFileStatus note.status → SendsFileOf s l conf note old new
 
-  hindered_status : IsHindered l once old new → (note : Note) → once.note ≡ Some note → note.status ≡ 507
-  hindered_status (inl f) note noted = let none = f.noted in cc
-  hindered_status (inr k) note noted =
+  -- where no reply was made, or that of a line, none is a file's
+  unnoted : once.note ≡ None → Headline
+  unnoted none st kt note noted status = absurd (cc)
+
+  of_line : (c : Cause Q) → Lined l c once old new → Headline
+  of_line c k st kt note noted status =
       let given = k.replied.noted in
       let same : k.note ≡ note = cc in
-      subst (λ k. k.status ≡ 507) same k.lacks.sends.status
+      absurd (not_lined unread k.note k.io (subst (λ n. IsFileStatus n.status) (sym same) status) c None None k.gives)
 
-  pub ran_hindered : IsHindered l once old new → Ran
-  ran_hindered h = record {
-    by_bytes = if_all Runs (λ b. inr h) left;
-    any = inr h;
-    later = later;
-    headline = λ house note noted e. let is = hindered_status h note noted in absurd (omega arith);
-  }
+  pub ran_hindered : IsHindered l once old new → RanOnce s tells l conf old new once
+  ran_hindered (inl f) = record { asks = asked_in left; told = told_in left; runs = inr (inl f); headline = unnoted f.unanswered.noted }
+  ran_hindered (inr k) = record { asks = asked_in left; told = told_in left; runs = inr (inr k); headline = of_line cause.NoMemory k }
 
   -- the client's link ended inside a head
-  pub ran_ended : EndsUnread l once old new → IfSome left (λ b. next b ≡ Ends) → Ran
+  pub ran_ended : EndsUnread l once old new → IfSome left (λ b. next b ≡ Ends) → RanOnce s tells l conf old new once
   ran_ended e is = record {
-    by_bytes = if_also (λ b. next b ≡ Ends) Runs (λ b k. inl (subst (λ n. RunsBy s l n once old new) (sym k) e)) left is;
-    any = inl (Ends, e);
-    later = later;
-    headline = λ house note noted k. let none = e.noted in cc;
+    asks = Ends;
+    told = if_also (λ b. next b ≡ Ends) (λ b. Ends ≡ next b) (λ b k. sym k) left is;
+    runs = inl e;
+    headline = unnoted e.unanswered.noted;
   }
 
   -- the head was refused
-  pub ran_refused : (fault : HeadFault) → RefusesHead l fault once old new → IfSome left (λ b. next b ≡ Refuses fault) → Ran
+  pub ran_refused : (fault : HeadFault) → Lined l (cause.Head fault) once old new → IfSome left (λ b. next b ≡ Refuses fault)
+      → RanOnce s tells l conf old new once
   ran_refused fault r is = record {
-    by_bytes = if_also (λ b. next b ≡ Refuses fault) Runs (λ b k. inl (subst (λ n. RunsBy s l n once old new) (sym k) r)) left is;
-    any = inl (Refuses fault, r);
-    later = later;
-    headline = λ house note noted e.
-        let given = r.replied.noted in
-        let same : r.note ≡ note = cc in
-        absurd (head_other fault (sym r.sends.status ∙ ap (λ k. k.status) same ∙ e));
+    asks = Refuses fault;
+    told = if_also (λ b. next b ≡ Refuses fault) (λ b. Refuses fault ≡ next b) (λ b k. sym k) left is;
+    runs = inl r;
+    headline = of_line (cause.Head fault) r;
   }
 
   -- a request was answered
-  module _ (r : Request) (asked : IfSome left (λ b. (rest : List ℕ) × (next b ≡ Asks r rest))) where
-    abbrev m : Manner
-    m = manner_of r
-
-    file_sent : IsHonestHouse s → (note : Note) → note.status ≡ 200 → (t : Result Target TargetFault) → reading empty r.method r.target ≡ t
-        → AnswersWay s l (way_to t) m note old new → SendsFileOf s l note old new
-    file_sent house note ok (Ok (File path [])) is a = let status = a.sends.status in absurd (omega arith)
-    file_sent house note ok (Ok (File path (url ∷ urls))) is a =
-        let n = old.next in
-        let serves = house.serves.served r.method r.target path url (url ∷ urls) is (Contains-get_or (url ∷ urls) 0 [] (omega arith)) in
-        let honest = house.honest.gives n (ask_of url) path serves in
-        let sends = subst (λ k. Sends l (reply_to n m k) note old.client new.client) (a.heard.told house.tells) a.sends in
-        record {
+  module _ (r : Request) (a : Answered s tells l conf r once old new) (is : IfSome left (λ b. (rest : List ℕ) × (next b ≡ Asks r rest))) where
+    of_answer : Headline
+    of_answer st kt note noted status =
+        let given = a.replied.noted in
+        let same : a.note ≡ note = cc in
+        let own = subst (λ n. IsFileStatus n.status) (sym same) status in
+        let file = names_file (manner_of true r) a.note a.io own s tells conf r a.answers.at.lawful in
+        subst (λ n. SendsFileOf s l conf n old new) same
+        (record {
           request = r;
-          asked = asked;
-          path = path;
-          origins = url ∷ urls;
-          target = is;
-          sends = sends_front l n m note old.client new.client (s.instance n path) (answer_of s n url)
-              (λ h k ok. let c = honest.whole h k ok in record { front = c.front; all = c.all }) ok sends;
-        }
-    file_sent house note ok (Ok (Page query)) is a = let status = a.sends.status in absurd (omega arith)
-    file_sent house note ok (Err f) is a = absurd (target_other f (sym a.sends.status ∙ ok))
+          asked = is;
+          path = file.0;
+          origins = file.1;
+          target = file.2;
+          io = a.io;
+          since = a.replied.since;
+          sends = λ get. a.answers.at.sends st kt file.0 file.1 file.2 get own;
+        })
 
-    pub ran_answered : Answered s l r once old new → Ran
-    ran_answered a = record {
-      by_bytes = if_also (λ b. (rest : List ℕ) × (next b ≡ Asks r rest)) Runs
-          (λ b k. inl (subst (λ n. RunsBy s l n once old new) (sym k.1) a)) left asked;
-      any = inl (Asks r [], a);
-      later = later;
-      headline = λ house note noted e.
-          let given = a.replied.noted in
-          let same : a.note ≡ note = cc in
-          subst (λ k. SendsFileOf s l k old new) same
-          (file_sent house a.note (ap (λ k. k.status) same ∙ e) (reading empty r.method r.target) refl a.answers);
-    }
-
-    -- or memory was refused in it
-    pub answered : (note : Note) → Replied once note → AnswersOrLacks s l r note old new → Ran
-    answered note replied (inl a) = ran_answered (record { note = note; replied = replied; answers = a })
-    answered note replied (inr k) = ran_hindered (inr (record { note = note; replied = replied; lacks = k }))
+    pub ran_answered : RanOnce s tells l conf old new once
+    ran_answered = let rest = rest_in r left is in record { asks = Asks r rest.0; told = rest.1; runs = inl a; headline = of_answer }

@@ -1,11 +1,5 @@
-pub mod Events
-pub mod Framed
-pub mod Lines
 pub mod Maint
 pub mod Once
-pub mod Relays
-pub mod Replies
-pub mod Runs
+pub mod Opens
 pub mod Single
-pub mod Ways
 pub mod Words

@@ -1,89 +1,74 @@
-//! One request of a link, one attempt at the origin, one reply.
-ghost use Rattle.std.specs.Prelude.{◌≡◌, ◌≤◌, ◌-◌, ◌^◌, ◌<◌, Some, None, false};
-ghost use Rattle.std.specs.Io.KnownBytes.{Keeps};
-ghost use Rattle.acng_cli.specs.Once.{RanOnce, AnswersOrLacks};
-ghost use Rattle.acng_cli.specs.Replies.{manner_of as manner_of_request, plain_manner as plain_manner_of};
+//! One request of a link, and one reply to it, over a desk.
+ghost use Rattle.std.specs.Prelude.{◌≡◌, true, Some, None};
+ghost use Rattle.acng_site.specs.Honest.{IsHonest};
+ghost use Rattle.acng_conf.specs.Settings.{rules_of};
+ghost use Rattle.acng_remap.specs.Origins.{ServesTargets};
+ghost use Rattle.acng_desk.specs.Keeps.{IsIdle};
+ghost use Rattle.acng_cli.specs.Once.{RanOnce};
 
-use crate::manner::Manner;
-use crate::note::{Cause, Note, Once, OnceStop};
-use crate::refusal::refuse;
-use crate::reply::answer;
-use crate::way::{Way, way_of};
-use acng_base::Link;
-use acng_request::{Got, HeadBuf, Request, read_request};
-use acng_site::{Origin, Right, Site};
+use acng_base::{Clock, Link};
+use acng_conf::Conf;
+use acng_desk::Desk;
+use acng_keeper::{Keeper, SlipOf};
+use acng_request::{Got, HeadBuf, read_request};
+use acng_serve::{Cause, Note, answer_one, answer_unread};
+use acng_site::{Origin, Site};
 use std::alloc::Global;
 
-/// Reads one request, answers it by at most one attempt at the origin, and returns. Nothing is kept.
+/// How a run ended.
+#[derive(Clone, Copy, Debug, PartialEq, Eq)]
+pub enum OnceStop {
+    /// A reply was made, or a front of one that the link broke off.
+    Replied,
+    /// The link ended before a request's head was whole.
+    ClientEnded,
+    /// The link failed before a request was read or refused.
+    ClientFault,
+}
+
+/// What is told of a run. The note is there exactly where the stop is `Replied`.
+#[derive(Debug, Drop)]
+pub struct Once<Q> {
+    pub note: Option<Note<Q>>,
+    pub stop: OnceStop,
+}
+
+/// Reads one request, answers it over the desk, and returns.
 ///
-/// The reply is that to the client's bytes and to what the attempt's answer reads as. It yields to a failure of the
-/// client's link, which cuts it, and to want of memory, which is said by a reply of its own.
-pub fn run_once<S: Site, O: Origin<S>, L: Link>(
+/// What the client's bytes ask decides, and the answer is `answer_one`'s, as that to the last request of a connection. A
+/// head that is refused gets its line, and then desk and clock aren't touched.
+pub fn run_once<S: Site, K: Keeper, O: Origin<S>, C: Clock, L: Link>(
     alloc: Global,
-    right: &mut Right<S>,
+    desk: &mut Desk<S, K, ()>,
+    conf: &Conf,
     origin: &O,
+    clock: &mut C,
     client: &mut L,
-) -> Once
-    requires { right.old.next < 2 ^ 64 - 1 }
-    ensures { RanOnce S.Site L.Link (record { client = client.old; next = right.old.next })
-        (record { client = client.new; next = right.new.next }) result }
+) -> Once<SlipOf<K>>
+    requires idle { IsIdle desk.old.plain }
+    requires rules { desk.old.plain.rules ≡ rules_of conf.now }
+    requires serves { S.tells ≡ true → ServesTargets conf.now S.serves }
+    requires honest { S.tells ≡ true → IsHonest S.Site }
+    ensures ran { RanOnce S.Site K.tells L.Link conf.now
+        (record { client = client.old; coming = C.coming clock.old; desk = desk.old })
+        (record { client = client.new; coming = C.coming clock.new; desk = desk.new }) result }
+    ensures idle { IsIdle desk.new.plain }
 {
     let Ok(mut buf) = HeadBuf::new(alloc) else {
-        return replied(refuse(client, plain_manner(), Cause::NoMemory));
+        return replied(answer_unread(Cause::NoMemory, client));
     };
     match read_request(alloc, client, &mut buf) {
-        Got::Request(request) => replied(answer_request(alloc, right, origin, &request, client)),
+        Got::Request(request) => {
+            replied(answer_one(alloc, desk, conf, origin, clock, &request, client))
+        }
         Got::Ended => unanswered(OnceStop::ClientEnded),
         Got::ClientFault => unanswered(OnceStop::ClientFault),
-        Got::Refused(fault) => replied(refuse(client, plain_manner(), Cause::Head(fault))),
-        Got::NoMemory => replied(refuse(client, plain_manner(), Cause::NoMemory)),
+        Got::Refused(fault) => replied(answer_unread(Cause::Head(fault), client)),
+        Got::NoMemory => replied(answer_unread(Cause::NoMemory, client)),
     }
 }
 
-// Answers a request that was read.
-fn answer_request<S: Site, O: Origin<S>, L: Link>(
-    alloc: Global,
-    right: &mut Right<S>,
-    origin: &O,
-    request: &Request,
-    client: &mut L,
-) -> Note
-    requires { right.old.next < 2 ^ 64 - 1 }
-    ensures answers { AnswersOrLacks S.Site L.Link request.now result (record { client = client.old; next = right.old.next })
-        (record { client = client.new; next = right.new.next }) }
-    ensures faults { L.faults client.old ≤ L.faults client.new }
-{
-    let manner = manner_of(request);
-    match way_of(alloc, request) {
-        Way::Attempt(url) => {
-            let attempt = right.draw();
-            answer(alloc, attempt, origin, url, manner, client)
-        }
-        Way::Refusal(cause) => refuse(client, manner, cause),
-    }
-}
-
-// The manner of the reply to a request.
-fn manner_of(request: &Request) -> Manner
-    ensures { result ≡ manner_of_request request.now }
-{
-    Manner {
-        bare: request.method.as_bytes() == b"HEAD".as_slice(),
-        minor: request.minor,
-    }
-}
-
-// The manner of a reply where no request was read.
-fn plain_manner() -> Manner
-    ensures { result ≡ plain_manner_of }
-{
-    Manner {
-        bare: false,
-        minor: 1,
-    }
-}
-
-fn replied(note: Note) -> Once
+fn replied<Q>(note: Note<Q>) -> Once<Q>
     ensures { result ≡ record { note = Some note; stop = OnceStop.Replied } }
 {
     Once {
@@ -92,7 +77,7 @@ fn replied(note: Note) -> Once
     }
 }
 
-fn unanswered(stop: OnceStop) -> Once
+fn unanswered<Q>(stop: OnceStop) -> Once<Q>
     ensures { result ≡ record { note = None; stop = stop } }
 {
     Once { note: None, stop }

@@ -5,11 +5,11 @@ ghost use Rattle.acng_conf.specs.Readings.{reading};
 ghost use Rattle.acng_cli.specs.Words.{words_of};
 ghost use Rattle.acng_cli.specs.Maint.{fault_name as name_of, words_line as line_of, of_words, of_command, of_conf, ReadsFew};
 
-use crate::source::read_all;
+use crate::source::read_settings;
 use crate::status::{CONFIGURATION, DONE, WORDS};
 use crate::words::{Command, WordsFault, read_words};
 use acng_base::{FileFault, NoMemory, Source, Text};
-use acng_conf::{Conf, ConfCause, ConfFault, ListFile, print_conf, print_fault, read_conf};
+use acng_conf::{Conf, ConfFault, ListFile, print_conf, print_fault};
 use std::alloc::Global;
 
 /// The text, and the status.
@@ -87,21 +87,14 @@ pub(crate) fn conf_output<I: Source>(
     ensures later { I.faults source.old ≤ I.faults source.new }
     ensures reads { ReadsFew (I.left source.old) (I.left source.new) }
 {
-    let text = read_all(alloc, source)?;
-    let Ok(output) = text_output(alloc, text.as_slice(), lists) else {
+    let printed = match read_settings(alloc, source, lists)? {
+        Ok(conf) => accepted(alloc, &conf),
+        Err(fault) => refused(alloc, fault),
+    };
+    let Ok(output) = printed else {
         return Err(FileFault::NoMemory);
     };
     Ok(output)
-}
-
-fn text_output(alloc: Global, text: &[u8], lists: &[ListFile]) -> Result<Output, NoMemory>
-    ensures output { IfOk result (λ output. output ≡ of_conf (reading text.now lists.now)) }
-    ensures status { IfOk result (λ output. (output.status ≡ 0) ⊎ (output.status ≡ 3)) }
-{
-    match read_conf(alloc, text, lists) {
-        Ok(conf) => accepted(alloc, &conf),
-        Err(fault) => refused(alloc, fault),
-    }
 }
 
 fn accepted(alloc: Global, conf: &Conf) -> Result<Output, NoMemory>
@@ -115,11 +108,7 @@ fn accepted(alloc: Global, conf: &Conf) -> Result<Output, NoMemory>
 fn refused(alloc: Global, fault: ConfFault) -> Result<Output, NoMemory>
     ensures output { IfOk result (λ output. output ≡ of_conf (Err fault)) }
     ensures status { IfOk result (λ output. output.status ≡ 3) }
-    ensures memory { OnOk result (fault.cause ≢ ConfCause.NoMemory) }
 {
-    if fault.cause == ConfCause::NoMemory {
-        return Err(NoMemory);
-    }
     let text = print_fault(alloc, fault)?;
     Ok(Output {
         status: CONFIGURATION,

@@ -1,1 +1,3 @@
+mod Empty
 mod HonestFile
+mod Serves

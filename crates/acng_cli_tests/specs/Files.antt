@@ -9,7 +9,7 @@ abbrev pub answer : List ℕ
 answer = codes "HTTP/1.1 200 OK\r\nContent-Length: 3\r\n\r\nabc"
 
 abbrev pub rule : Rule
-rule = record { url = codes "http://a/f"; from = 0; first = 0; last = 9; bytes = answer; fault = false }
+rule = record { url = codes "http://a/f.deb"; from = 0; first = 0; last = 9; bytes = answer; fault = false }
 
 abbrev pub rules : List Rule
 rules = rule ∷ []

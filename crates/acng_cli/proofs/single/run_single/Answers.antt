@@ -1,16 +1,43 @@
-use Rattle.std.proofs.Common.{ℕ, Bool, true, false, Option, refl, inr}
-use Rattle.acng_base.specs.declared.link.Link.{Ghosts as LinkGhosts}
-use Rattle.acng_site.specs.declared.site.Site.{Ghosts as SiteGhosts}
-use Rattle.acng_cli.specs.declared.note.Once.{Once}
-use Rattle.acng_cli.specs.Once.{Outside}
-use Rattle.acng_cli.specs.Single.{RanSingle, StaysIdle}
+use Rattle.acng_cli.specs.Words.{words_of}
+use Rattle.acng_cli.specs.Single.{once_in}
+use Rattle.std.proofs.Common.{refl}
+use Rattle.acng_cli.proofs.Singles.{ran_idle, ran_over, ran_ended, still}
 use Rattle.acng_cli.proofs.single.run_single.Goals as goal
 
--- status 6 says the same of all words
-lacks : {S L : Type 0} (s : SiteGhosts S) (l : LinkGhosts L) (b : Bool) (ran : ℕ × Option Once) (old new : Outside L)
-    → StaysIdle 6 ran old new → RanSingle s l b ran old new
-lacks s l true ran old new idle = inr idle
-lacks s l false ran old new idle = inr idle
+pub returns-in-Err-clause-ran : goal.returns-in-Err-clause-ran
+returns-in-Err-clause-ran g c =
+    ran_idle g.S.Site g.K.Keeper.tells g.L.Link
+    (λ k. record { kept = g.K.Keeper.kept k; next_id = g.K.Keeper.next k; faults = g.K.Keeper.faults k }) _ _ _ c.args.keeper refl
+    c.requires.faithful _ (once_in (words_of c.args.words.now)) c.in-Err.status c.never_ran.result c.in-Err.ensures.refused c.never_ran.ensures
 
-pub returns-in-Err-NoMemory : goal.returns-in-Err-NoMemory
-returns-in-Err-NoMemory g c = lacks g.S.Site g.L.Link _ _ _ _ (record { is = refl; client = refl; undrawn = refl })
+pub returns-in-Ready-clause-ran : goal.returns-in-Ready-clause-ran
+returns-in-Ready-clause-ran g c =
+    ran_over g.S.Site g.K.Keeper.tells g.L.Link
+    (λ k. record { kept = g.K.Keeper.kept k; next_id = g.K.Keeper.next k; faults = g.K.Keeper.faults k }) _ _ _ c.args.keeper refl
+    c.requires.faithful _ (once_in (words_of c.args.words.now)) c.in-Ok.words _ c.in-Ready.conf c.in-Ready.desk _ c.run_over.result
+    c.in-Ok.ensures.words c.in-Ready.ensures.opened c.run_over.ensures.ran
+
+pub returns-in-Ended-clause-ran : goal.returns-in-Ended-clause-ran
+returns-in-Ended-clause-ran g c =
+    ran_ended g.S.Site g.K.Keeper.tells g.L.Link
+    (λ k. record { kept = g.K.Keeper.kept k; next_id = g.K.Keeper.next k; faults = g.K.Keeper.faults k }) _ _ _ c.args.keeper refl
+    c.requires.faithful _ (once_in (words_of c.args.words.now)) c.in-Ok.words c.in-Ended.ended c.never_ran-in-Ended.result c.in-Ok.ensures.words
+    c.in-Ended.ensures.opened c.never_ran-in-Ended.ensures
+
+pub returns-in-Err-clause-still : goal.returns-in-Err-clause-still
+returns-in-Err-clause-still g c =
+    still g.S.Site g.K.Keeper.tells g.L.Link
+    (λ k. record { kept = g.K.Keeper.kept k; next_id = g.K.Keeper.next k; faults = g.K.Keeper.faults k }) _ _ _ c.args.keeper refl
+    c.requires.faithful _ _ (once_in (words_of c.args.words.now)) c.never_ran.result (returns-in-Err-clause-ran g c)
+
+pub returns-in-Ready-clause-still : goal.returns-in-Ready-clause-still
+returns-in-Ready-clause-still g c =
+    still g.S.Site g.K.Keeper.tells g.L.Link
+    (λ k. record { kept = g.K.Keeper.kept k; next_id = g.K.Keeper.next k; faults = g.K.Keeper.faults k }) _ _ _ c.args.keeper refl
+    c.requires.faithful _ _ (once_in (words_of c.args.words.now)) c.run_over.result (returns-in-Ready-clause-ran g c)
+
+pub returns-in-Ended-clause-still : goal.returns-in-Ended-clause-still
+returns-in-Ended-clause-still g c =
+    still g.S.Site g.K.Keeper.tells g.L.Link
+    (λ k. record { kept = g.K.Keeper.kept k; next_id = g.K.Keeper.next k; faults = g.K.Keeper.faults k }) _ _ _ c.args.keeper refl
+    c.requires.faithful _ _ (once_in (words_of c.args.words.now)) c.never_ran-in-Ended.result (returns-in-Ended-clause-ran g c)

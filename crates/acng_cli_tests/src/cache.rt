@@ -1,0 +1,79 @@
+//! A cache in memory, and one run of `once` over it.
+ghost use Rattle.acng_grow.specs.Faithful.{IsFaithful};
+
+use acng_base::{FixedClock, MemoryLink, MemorySource, NoMemory, Text};
+use acng_cli::{Single, run_single};
+use acng_keeper::{Keeper, MemoryKeeper};
+use acng_site::{MemoryOrigin, NoGate, Rule, Site, Untold};
+use std::alloc::Global;
+
+/// A keeper, of which all that it has may be served.
+#[derive(Drop)]
+pub struct Cache {
+    keeper: MemoryKeeper,
+    ghost faithful: { IsFaithful ⟦<Untold as Site>⟧ (⟦<MemoryKeeper as Keeper>⟧.kept keeper) },
+}
+
+impl Cache {
+    /// An empty one, of which the calls with these numbers fail.
+    #[tactic(auto, using(crate::proofs::Empty::nothing_faithful))]
+    pub fn new(alloc: Global, fail: &[u64]) -> Result<Cache, NoMemory> {
+        let keeper = MemoryKeeper::new(alloc, fail)?;
+        Ok(Cache { keeper })
+    }
+}
+
+/// What a run meets: the configuration, the moment, what the origin answers, in what pieces all bytes come and go, and which
+/// call of the client's link and which read of the configuration fails.
+#[derive(Clone, Copy)]
+pub struct Around<'a> {
+    pub conf: &'a str,
+    pub moment: u64,
+    pub rules: &'a [Rule],
+    pub cut: usize,
+    pub link_fails: u64,
+    pub conf_fails: u64,
+}
+
+/// The number of a call that is never made.
+pub const NEVER: u64 = 1_000_000;
+
+/// How a run ended: the program's status, and what was written.
+#[derive(Drop)]
+pub struct Outcome {
+    pub status: u8,
+    pub written: Vec<u8>,
+}
+
+/// One run by the words, which stand between blanks. The cache is given back as the run leaves it.
+pub fn run(
+    alloc: Global,
+    words: &str,
+    cache: Cache,
+    around: Around<'_>,
+    request: &[u8],
+) -> Result<(Outcome, Cache), NoMemory> {
+    let mut texts = Vec::new(alloc);
+    for word in words.split(' ') {
+        texts.push(Text::copy(alloc, word.as_bytes())?)?;
+    }
+    let cut = around.cut.max(1);
+    let (origin, right) = MemoryOrigin::<Untold, NoGate>::start(alloc, around.rules, cut, NoGate)?;
+    let mut conf = MemorySource::new(alloc, around.conf.as_bytes(), cut, &[around.conf_fails])?;
+    let mut clock = FixedClock::new(alloc, &[around.moment])?;
+    let mut link = MemoryLink::new(alloc, request, 4096, cut, &[around.link_fails])?;
+    let Cache { keeper } = cache;
+    let Single { status, keeper, .. } = run_single(
+        alloc,
+        texts.as_slice(),
+        keeper,
+        right,
+        &mut conf,
+        &[],
+        &origin,
+        &mut clock,
+        &mut link,
+    );
+    let written = Vec::from_slice(alloc, link.written())?;
+    Ok((Outcome { status, written }, Cache { keeper }))
+}

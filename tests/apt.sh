@@ -1,0 +1,144 @@
+#!/usr/bin/env bash
+# apt itself over the cache: a small repository behind a mirror on the loopback, and a super-server that starts one `acng once`
+# for each connection. `apt-get update` and `apt-get download` run in a private root; apt compares every hash. In the second
+# round, with nothing left in apt's root, the mirror is asked for nothing but files that may change.
+# Once with indexes by their hashes and once by their names.
+set -u
+cd "$(dirname "$0")/.." || exit 1
+check=apt
+. tests/common.sh
+need python3 apt-get apt-cache
+build
+: > "$work/body"
+
+# ---- the repository: 20 packages, a list of them, and a Release; by-hash names where the first argument is `yes`
+
+make_repository() {
+    local root=$1 by_hash=$2
+    mkdir -p "$root/pool/main" "$root/dists/stable/main/binary-amd64"
+    python3 - "$root" "$by_hash" << 'PYTHON'
+import hashlib
+import os
+import sys
+
+root, by_hash = sys.argv[1:]
+
+
+def digest(bytes):
+    return hashlib.sha256(bytes).hexdigest()
+
+
+stanzas = []
+for i in range(20):
+    name = "pool/main/koala%02d_1.0_all.deb" % i
+    body = os.urandom(10_000 * (i + 1))
+    with open(os.path.join(root, name), "wb") as file:
+        file.write(body)
+    stanzas.append("Package: koala%02d\nVersion: 1.0\nArchitecture: all\nMaintainer: Nobody <nobody@localhost>\n"
+                   "Description: a package\nFilename: %s\nSize: %d\nSHA256: %s\n" % (i, name, len(body), digest(body)))
+text = "\n".join(stanzas).encode()
+folder = os.path.join(root, "dists/stable/main/binary-amd64")
+names = ["Packages"]
+if by_hash == "yes":
+    os.makedirs(os.path.join(folder, "by-hash/SHA256"))
+    names = ["by-hash/SHA256/" + digest(text)]
+for name in names:
+    with open(os.path.join(folder, name), "wb") as file:
+        file.write(text)
+with open(os.path.join(root, "dists/stable/Release"), "w") as file:
+    file.write("Origin: Koala\nSuite: stable\nCodename: stable\nArchitectures: amd64\nComponents: main\n"
+               "Date: Tue, 01 Dec 2026 00:00:00 UTC\nAcquire-By-Hash: %s\nSHA256:\n %s %d main/binary-amd64/Packages\n"
+               % (by_hash, digest(text), len(text)))
+PYTHON
+}
+
+# ---- the super-server: one program a connection, one after another
+
+serve_one_by_one() {
+    python3 - "$program" "$work/acng.conf" "$1" << 'PYTHON'
+import socket
+import subprocess
+import sys
+
+program, conf, cache = sys.argv[1:]
+listener = socket.socket()
+listener.bind(("127.0.0.1", 0))
+listener.listen(64)
+print(listener.getsockname()[1], flush=True)
+while True:
+    connection, _ = listener.accept()
+    with connection:
+        status = subprocess.call([program, "once", "--conf", conf, "--cache", cache], stdin=connection, stdout=connection)
+        if status not in (0, 1, 7):
+            print("status %d" % status, file=sys.stderr, flush=True)
+PYTHON
+}
+
+# ---- apt in a root of its own, which knows one proxy
+
+make_root() {
+    rm -rf "$work/root"
+    mkdir -p "$work/root/etc/apt/preferences.d" "$work/root/etc/apt/trusted.gpg.d" "$work/root/var/lib/apt/lists/partial" \
+        "$work/root/var/cache/apt/archives/partial" "$work/root/var/lib/dpkg" "$work/downloads"
+    : > "$work/root/var/lib/dpkg/status"
+    echo "deb [trusted=yes arch=amd64] http://$host/tree/$1 stable main" > "$work/root/etc/apt/sources.list"
+    cat > "$work/apt.conf" << CONF
+Dir "$work/root";
+Dir::Bin::methods "/usr/lib/apt/methods";
+Dir::State::status "$work/root/var/lib/dpkg/status";
+Dir::Etc::main "/dev/null";
+Dir::Etc::parts "/dev/null";
+Dir::Log "$work/root";
+APT::Architecture "amd64";
+APT::Architectures { "amd64"; };
+APT::Sandbox::User "";
+APT::Update::Error-Mode "any";
+Acquire::Languages "none";
+Acquire::Retries "0";
+Acquire::http::Proxy "http://127.0.0.1:$proxy";
+Acquire::http::Pipeline-Depth "0";
+CONF
+}
+apt() { env -u http_proxy -u no_proxy -u HTTP_PROXY -u NO_PROXY APT_CONFIG="$work/apt.conf" LC_ALL=C "$@"; }
+
+# round NAME REPOSITORY: an update and a download of everything in an empty root
+round() {
+    local bad=0
+    make_root "$2"
+    rm -rf "$work/downloads" && mkdir "$work/downloads"
+    : > "$work/log"
+    apt apt-get update > "$work/update" 2>&1 || bad=1
+    (cd "$work/downloads" && apt apt-get download $(seq -f 'koala%02g' 0 19)) > "$work/download" 2>&1 || bad=1
+    for package in "$work/$2/pool/main"/*.deb; do
+        cmp -s "$package" "$work/downloads/$(basename "$package")" || bad=1
+    done
+    said "$1" "$bad" "$(cat "$work/update" "$work/download")"
+}
+
+printf 'FreshIndexMaxAge: 0\n' > "$work/acng.conf"
+start_mirror "$work"
+for by_hash in yes no; do
+    repository=hash_$by_hash
+    make_repository "$work/$repository" "$by_hash"
+    serve_one_by_one "$work/cache_$by_hash" > "$work/port_$by_hash" 2> "$work/statuses_$by_hash" &
+    server=$!
+    for _ in $(seq 100); do
+        [ -s "$work/port_$by_hash" ] && break
+        sleep 0.1
+    done
+    proxy=$(cat "$work/port_$by_hash")
+    round "by hash $by_hash: update and 20 packages" "$repository"
+    [ "$(grep -c '\.deb 200$' "$work/log")" = 20 ]
+    said "by hash $by_hash: each package is asked for once" $? "$(cat "$work/log")"
+    sleep 1.1
+    round "by hash $by_hash: the second round" "$repository"
+    # With their hashes in the name even the lists don't change.
+    volatile='/(InRelease|Release|Release.gpg|Packages) [0-9]+( date)?$'
+    [ "$by_hash" = yes ] && volatile='/(InRelease|Release|Release.gpg) [0-9]+( date)?$'
+    ! grep -Evq "$volatile" "$work/log" && [ -s "$work/log" ]
+    said "by hash $by_hash: only what may change is asked for again" $? "$(cat "$work/log")"
+    [ ! -s "$work/statuses_$by_hash" ]
+    said "by hash $by_hash: no run fails" $? "$(cat "$work/statuses_$by_hash")"
+    kill "$server"
+done
+exit $failed

@@ -1,0 +1,55 @@
+# What the checks of the built program share. A check sets `check` to its own name and sources this from the repository's top.
+program=$PWD/crates/acng/out/acng
+
+skip() { echo "$check: skipped, $1"; exit 0; }
+need() { for tool; do command -v "$tool" > /dev/null || skip "there is no $tool"; done; }
+
+# The program, built where it isn't.
+build() {
+    [ -x "$program" ] || (cd crates/acng && rt run -- check-conf < /dev/null > /dev/null 2>&1)
+    [ -x "$program" ] || { echo "$check: the program isn't built"; exit 1; }
+}
+
+work=$(mktemp -d)
+trap 'exec 3>&-; rm -rf "$work"' EXIT
+
+# start_mirror [FOLDER]: a mirror over `$work/body`, and over that folder. Its log is `$work/log`, and `$host` its host and port.
+start_mirror() {
+    mkfifo "$work/stop"
+    : > "$work/log"
+    python3 tests/mirror.py "$work/body" "$work/log" "$@" < "$work/stop" > "$work/ready" 2> "$work/error" &
+    exec 3> "$work/stop"
+    for _ in $(seq 100); do
+        [ -s "$work/ready" ] && break
+        sleep 0.1
+    done
+    [ -s "$work/ready" ] || skip "the mirror doesn't start"
+    host=localhost:$(cut -d ' ' -f 2 "$work/ready")
+}
+
+# ---- the texts of replies
+
+# head_of STATUS TYPE FIELDS: the head of a reply
+head_of() { printf 'HTTP/1.1 %s\r\nContent-Type: %s\r\n%bConnection: close\r\n\r\n' "$1" "$2" "$3"; }
+file_head() { head_of '200 OK' application/octet-stream "$1"; }
+# line_of STATUS LINE: a reply of one line
+line_of() { head_of "$1" text/plain "Content-Length: $((${#2} + 1))\r\n"; printf '%s\n' "$2"; }
+
+# ---- what came out
+
+failed=0
+# said NAME WHETHER WHAT: whether it was as expected, and else what was seen
+said() {
+    if [ "$2" = 0 ]; then
+        echo "$check: $1: as expected"
+    else
+        echo "$check: $1: $3"
+        failed=1
+    fi
+}
+# compare NAME STATUS WANTED REPLY FILE: the status of the program and its reply, beside the wanted ones
+compare() {
+    local bad=0
+    { [ "$2" = "$3" ] && cmp -s "$4" "$5"; } || bad=1
+    said "$1" "$bad" "status $2, wanted $3, or other bytes"
+}
