@@ -1,17 +1,26 @@
 //! A cache in memory, and one run of `once` over it.
-ghost use Rattle.acng_grow.specs.Faithful.{IsFaithful};
-
 use acng_base::{FixedClock, MemoryLink, MemorySource, NoMemory, Text};
 use acng_cli::{Single, run_single};
 use acng_keeper::{Keeper, MemoryKeeper};
 use acng_site::{MemoryOrigin, NoGate, Rule, Site, Untold};
 use std::alloc::Global;
+use std::marker::Model;
 
-/// A keeper, of which all that it has may be served.
+/// A keeper, of which all that it has may be served. It is seen as the number of its next body.
 #[derive(Drop)]
 pub struct Cache {
     keeper: MemoryKeeper,
-    ghost faithful: { IsFaithful ⟦<Untold as Site>⟧ (⟦<MemoryKeeper as Keeper>⟧.kept keeper) },
+}
+
+impl Model for Cache {
+    ghost use Rattle.std.specs.Prelude.{ℕ};
+    ghost use Rattle.acng_grow.specs.Faithful.{IsFaithful};
+
+    ghost Value = { ℕ };
+
+    ghost view = { λ c. ⟦<MemoryKeeper as Keeper>⟧.next c.keeper };
+
+    ghost invariant = { λ c. IsFaithful ⟦<Untold as Site>⟧ (⟦<MemoryKeeper as Keeper>⟧.kept c.keeper) };
 }
 
 impl Cache {
