@@ -10,6 +10,8 @@ check=apt
 need python3 apt-get apt-cache
 build
 : > "$work/body"
+server=
+trap 'exec 3>&-; [ -z "$server" ] || kill "$server" 2> /dev/null; rm -rf "$work"' EXIT
 
 # ---- the repository: 20 packages, a list of them, and a Release; by-hash names where the first argument is `yes`
 
@@ -55,7 +57,7 @@ PYTHON
 # ---- the super-server: one program a connection, one after another
 
 serve_one_by_one() {
-    python3 - "$program" "$work/acng.conf" "$1" << 'PYTHON'
+    exec python3 - "$program" "$work/acng.conf" "$1" << 'PYTHON'
 import socket
 import subprocess
 import sys

@@ -10,7 +10,7 @@ build
 head -c 300000 /dev/urandom > "$work/body"
 start_mirror
 mkdir "$work/conf"
-printf 'FreshIndexMaxAge: 2\n' > "$work/conf/acng.conf"
+printf 'FreshIndexMaxAge: 6\n' > "$work/conf/acng.conf"
 # What `ask` runs over, and as whom; a call may set others for itself.
 as=()
 conf=$work/conf/acng.conf
@@ -74,12 +74,12 @@ expect 'chunks, a hit' 0 0 "$(get chunks/a.deb)"
 { file_head 'Content-Length: 3\r\nLast-Modified: Thu, 01 Jan 1970 00:16:40 GMT\r\nETag: "x"\r\n'; printf abc; } > "$work/wanted"
 expect 'an index, a miss' 0 1 "$(get dated/InRelease)"
 expect 'an index that is fresh' 0 0 "$(get dated/InRelease)"
-sleep 3.1
+sleep 7.1
 expect 'an index that is old' 0 1 "$(get dated/InRelease)"
 expect 'an index that was checked again' 0 0 "$(get dated/InRelease)"
 grep -q '^GET /dated/InRelease 304 date$' "$work/log"
 said 'an old index is asked for with its date' $? "$(tail -2 "$work/log")"
-sleep 3.1
+sleep 7.1
 printf 'Offlinemode: 1\n' > "$work/conf/acng.conf"
 expect 'an index of any age, offline' 0 0 "$(get dated/InRelease)"
 line_of '503 Service Unavailable' '503 Offline' > "$work/wanted"

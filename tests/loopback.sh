@@ -1,7 +1,7 @@
 #!/usr/bin/env bash
 # Runs the built program against a mirror on a free port of the loopback, and compares the bytes of each reply. Each request
 # has a cache folder of its own, so each asks the mirror.
-# A mirror that leaves its connection open behind an answer is not waited for: each run has 5 seconds. One that stops sending
+# A mirror that leaves its connection open behind an answer is not waited for: each run has 20 seconds. One that stops sending
 # in the middle ends after a minute; these runs are begun first and compared last.
 set -u
 cd "$(dirname "$0")/.." || exit 1
@@ -16,7 +16,7 @@ start_mirror
 conf=
 expect() {
     rm -rf "$work/cache"
-    printf '%b\r\n\r\n' "$3" | timeout 5 "$program" once --cache "$work/cache" $conf > "$work/reply"
+    printf '%b\r\n\r\n' "$3" | timeout 20 "$program" once --cache "$work/cache" $conf > "$work/reply"
     compare "$1" $? "$2" "$work/reply" "$work/wanted"
 }
 get() { printf 'GET http://%s/%s/pool/main/a/a_1_all.deb HTTP/1.1' "$host" "$1"; }
