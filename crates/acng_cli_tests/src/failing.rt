@@ -1,6 +1,6 @@
 //! Calls that fail, one in each run: no wrong byte goes out, the status says whose fault it was, and the next run is right.
 use crate::cache::{Around, Cache, NEVER, Outcome, run};
-use crate::requests::{rule, rules};
+use crate::requests::rules;
 use acng_site::Rule;
 use std::alloc::Global;
 use std::process::Abort;
@@ -89,37 +89,6 @@ fn a_link_that_fails_is_said_to(rt: HostRuntime) -> Result<(), Fail> {
     }
     // The request takes 5 reads of 7 bytes, and the reply more than 14 writes.
     assert!(rt; 38 <= said);
-    Ok(())
-}
-
-// The origin fails behind each front of its answer: a line says so, nothing is kept, and the next run is right.
-#[test]
-fn an_origin_that_fails_is_said_to(rt: HostRuntime) -> Result<(), Fail> {
-    let alloc = rt.alloc();
-    let good = rules(alloc).ok().ok_or("memory")?;
-    let answer = "HTTP/1.1 200 OK\r\nContent-Length: 3\r\n\r\nabc";
-    for front in 0..answer.len() {
-        let mut broken = rule(alloc, "http://a/x.deb", 0, &answer[..front])
-            .ok()
-            .ok_or("memory")?;
-        for fault in [true, false] {
-            broken.fault = fault;
-            let cache = Cache::new(alloc, &[]).ok().ok_or("memory")?;
-            let rules = [broken.again(alloc).ok().ok_or("memory")?];
-            let (outcome, cache) = ask(alloc, cache, around(&rules, 4096, NEVER, NEVER))?;
-            let line = if fault {
-                b"502 Origin\n".as_slice()
-            } else {
-                b"502 Early\n".as_slice()
-            };
-            assert!(rt;
-                outcome.status == 1 && outcome.written.ends_with(line),
-                "{front}"
-            );
-            let (outcome, _) = ask(alloc, cache, around(&good, 4096, NEVER, NEVER))?;
-            assert!(rt; is_right(&outcome), "after {front}");
-        }
-    }
     Ok(())
 }
 

@@ -10,5 +10,3 @@ pub mod honest;
 mod maint;
 #[cfg(test)]
 mod requests;
-#[cfg(test)]
-mod told;

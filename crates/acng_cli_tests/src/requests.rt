@@ -56,7 +56,7 @@ pub fn rules(alloc: Global) -> Result<[Rule; 4], NoMemory> {
 }
 
 // The answer of one attempt.
-pub fn rule(alloc: Global, url: &str, attempt: u64, answer: &str) -> Result<Rule, NoMemory> {
+fn rule(alloc: Global, url: &str, attempt: u64, answer: &str) -> Result<Rule, NoMemory> {
     Ok(Rule {
         url: Text::copy(alloc, url.as_bytes())?,
         from: 0,
