@@ -1,2 +1,7 @@
+pub mod Changes
 pub mod Marks
+pub mod Orders
+pub mod Rounds
+pub mod Sweeps
+pub mod Told
 mod Rows

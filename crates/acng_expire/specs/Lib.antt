@@ -1,3 +1,6 @@
 pub mod Doomed
+pub mod Expirations
 pub mod Laws
+pub mod Places
+pub mod Rounds
 pub mod Runs
