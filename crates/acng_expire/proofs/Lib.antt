@@ -1,4 +1,6 @@
+pub mod Bodies
 pub mod Changes
+pub mod Ends
 pub mod Marks
 pub mod Orders
 pub mod Rounds

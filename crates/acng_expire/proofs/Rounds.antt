@@ -24,7 +24,7 @@ mark_again : (now : ℕ) (reached : Bool) (mark : Option ℕ) → new_mark reach
 mark_again now true mark = refl
 mark_again now false mark = ap (λ m. Some m) (least_again mark now)
 
-seconds_of : (n : Option ℕ) → seconds (moment_of n) ≡ n
+pub seconds_of : (n : Option ℕ) → seconds (moment_of n) ≡ n
 seconds_of None = refl
 seconds_of (Some n) = refl
 
@@ -45,7 +45,7 @@ row_again now reached (Some r) = ap (λ (w : Option Whole). Some (record { whole
 pub marks_settled : (now : ℕ) (reached : List ℕ → Bool) → IsSettled (λ q p. remarked_place now (reached q) p)
 marks_settled now reached q p = ap (λ r. record { row = r; part = p.part }) (row_again now (reached q) p.row)
 
-emptied_bare : (o : Option Row) → whole_in (emptied_row o) ≡ None
+pub emptied_bare : (o : Option Row) → whole_in (emptied_row o) ≡ None
 emptied_bare None = refl
 emptied_bare (Some r) = by_case (is_some r.out)
   where

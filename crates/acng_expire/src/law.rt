@@ -1,5 +1,5 @@
 //! The law over all lists of runs.
-ghost use Rattle.acng_expire.specs.Laws.{OneMarkSuffices};
+ghost use Rattle.acng_expire.specs.Laws.{OneMarkSuffices, AreRuns};
 
 /// One mark for each body is enough. Take any list of runs, with any other steps between them: each run that is done
 /// removes exactly the bodies that have been unreached from an earlier run on, by more than the limit, under one id and
@@ -7,4 +7,10 @@ ghost use Rattle.acng_expire.specs.Laws.{OneMarkSuffices};
 /// nothing in this.
 pub fn one_mark_suffices()
     ensures { OneMarkSuffices }
+{}
+
+/// Runs over a desk are such runs: what `expire` makes of the bodies where it is done is what the law says of a run, and
+/// nothing where it is aborted.
+pub fn runs_are_lawful()
+    ensures { AreRuns }
 {}

@@ -10,5 +10,5 @@ mod mark;
 mod round;
 mod run;
 
-pub use law::one_mark_suffices;
+pub use law::{one_mark_suffices, runs_are_lawful};
 pub use run::{Expired, expire};

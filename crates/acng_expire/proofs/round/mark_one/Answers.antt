@@ -1,4 +1,5 @@
-use Rattle.std.proofs.Common.{◌≡◌, sym, ap, ◌∙◌}
+use Rattle.std.proofs.Common.{◌≡◌, Option, sym, subst}
+use Rattle.acng_base.specs.declared.clock.Moment.{Moment}
 use Rattle.acng_rows.specs.Rows.{whole_at}
 use Rattle.acng_expire.specs.Runs.{new_mark}
 use Rattle.acng_expire.specs.Places.{seconds, moment_of}
@@ -14,7 +15,7 @@ returns-clause-places g c =
     let now = c.args.now.0 in
     let t = told (whole_at p.rows path) c.in-Some.row c.in-Some.ensures in
     let mark = c.new_mark-mark.result in
-    let is : mark ≡ moment_of (new_mark reached now (seconds t.whole.mark)) =
-    c.new_mark-mark.ensures ∙ ap (λ m. moment_of (new_mark reached now (seconds m))) (sym t.mark) in
+    let by : Option Moment → Option Moment = λ m. moment_of (new_mark reached now (seconds m)) in
+    let is : mark ≡ by t.whole.mark = subst (λ m. mark ≡ by m) (sym t.mark) c.new_mark-mark.ensures in
     on_ok c.put_mark.result c.put_mark.ensures.plain
     (mark_put now reached p path t.whole t.at mark is c.put_mark.new.desk.plain)
