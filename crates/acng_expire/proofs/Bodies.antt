@@ -1,11 +1,11 @@
 -- What a run makes of the bodies of a desk is what the law says of a run.
-use Rattle.std.proofs.Common.{◌≡◌, ℕ, Bool, true, false, List, Option, Some, None, is_some, option_map, cond, refl, sym, ap, ◌∙◌}
+use Rattle.std.proofs.Common.{◌≡◌, ℕ, Bool, true, false, Option, Some, None, option_map, cond, refl, ap, ◌∙◌}
 use Rattle.std.specs.FinMap as map
 use Rattle.acng_rows.specs.declared.row.Whole.{Whole}
 use Rattle.acng_rows.specs.Rows.{Row, whole_in}
 use Rattle.acng_desk.specs.House.{Plain}
-use Rattle.acng_expire.specs.Runs.{Row as Body, new_mark, is_over, after_row, after_held, IsDone}
-use Rattle.acng_expire.specs.Places.{Place, place_at, whole_of, seconds, moment_of, remarked, remarked_place, is_due, emptied_row, emptied, expired}
+use Rattle.acng_expire.specs.Runs.{new_mark, is_over, after_held, IsDone}
+use Rattle.acng_expire.specs.Places.{Place, place_at, whole_of, seconds, remarked, is_due, emptied, expired}
 use Rattle.acng_expire.specs.Rounds.{Run}
 use Rattle.acng_expire.specs.Expirations.{IsFinished}
 use Rattle.acng_expire.specs.Laws.{body_of, bodies_of, AreRuns}

@@ -8,7 +8,7 @@ use Rattle.acng_rows.specs.declared.row.Whole.{Whole}
 use Rattle.acng_rows.specs.declared.stamp.Stamp.TheVariants.{Mark}
 use Rattle.acng_rows.specs.Rows.{Rows, Row, whole_in, out_in, whole_at, out_at, stamped_in, with_whole, without_whole, restamped}
 use Rattle.acng_rows.proofs.Points.{tie, tied, got-insert, got-remove}
-use Rattle.acng_desk.specs.House.{Plain, Parked, Parts}
+use Rattle.acng_desk.specs.House.{Plain, Parts}
 use Rattle.acng_desk.specs.Commands.{marked, removed}
 use Rattle.acng_reach.specs.Sets.{same}
 use Rattle.acng_expire.specs.Runs.{new_mark}

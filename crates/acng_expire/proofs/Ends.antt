@@ -1,5 +1,5 @@
 -- How a run ends, by its rounds.
-use Rattle.std.proofs.Common.{◌≡◌, ◌<◌, ◌⊎◌, inl, inr, ℕ, ◌+◌, ◌*◌, Bool, true, false, List, [], take, length, slice_index_or, cond, refl, sym, ap, subst, ◌∙◌}
+use Rattle.std.proofs.Common.{◌≡◌, ◌<◌, inl, inr, ℕ, ◌+◌, Bool, true, false, List, [], take, length, slice_index_or, cond, refl, sym, ap, subst, ◌∙◌}
 use mathlib.Core.Bool.{true≢false}
 use Rattle.acng_keeper.specs.Kept.{Stored, stored, nothing}
 use Rattle.acng_keeper.specs.declared.slip.KeepFault.{KeepFault}
@@ -16,7 +16,7 @@ use Rattle.acng_expire.specs.declared.run.Expired.{Expired}
 use Rattle.acng_expire.specs.declared.run.Expired.TheVariants.{Done, Aborted, Stopped, NoMemory}
 use Rattle.acng_expire.specs.Places.{place_at}
 use Rattle.acng_expire.specs.Rounds.{Run, run_of, limit_of, with_marks, with_removals, HasPlaces, HasLost, how_many, is_due_at, is_doomed, is_marked_at}
-use Rattle.acng_expire.specs.Expirations.{IsSurvey, is_stopped, IsFinished, IsCutInMarks, IsCutInRemovals, IsCutIn, cut, HasRun, HasExpired}
+use Rattle.acng_expire.specs.Expirations.{IsSurvey, is_stopped, IsFinished, IsCutIn, cut, HasRun, HasExpired}
 use Rattle.acng_expire.proofs.Rounds.{doomed_is, doomed_many, finished, cut_later}
 
 module _ (old mid new : Plain) (now : ℕ) (found : Found) (held : found.held ≡ held_paths old.rows)

@@ -1,8 +1,7 @@
 -- The rounds of a run: what each makes of each path, and both together.
-use Rattle.std.proofs.Common.{◌≡◌, ℕ, ◌<◌, ◌+◌, min, Bool, true, false, List, Option, Some, None, is_some, option_map, cond, refl, sym, ap, subst, ◌∙◌, arith, take, length, get_or, [], ◌∷◌}
+use Rattle.std.proofs.Common.{◌≡◌, ℕ, ◌<◌, ◌+◌, min, Bool, true, false, List, Option, Some, None, is_some, option_map, cond, refl, sym, ap, ◌∙◌, arith, take, length, get_or}
 use mathlib.Core.Bool.{true≢false}
 use Rattle.std.proofs.lemmas.Slice.Eq.{bytes_eq-Decides}
-use Rattle.acng_base.specs.declared.clock.Moment.{Moment}
 use Rattle.acng_rows.specs.declared.row.Whole.{Whole}
 use Rattle.acng_rows.specs.Rows.{Row, whole_in}
 use Rattle.acng_desk.specs.House.{Plain}
@@ -10,7 +9,7 @@ use Rattle.acng_reach.specs.Sets.{same, among}
 use Rattle.acng_reach.specs.Desks.{has_whole}
 use Rattle.acng_expire.specs.Runs.{new_mark, least}
 use Rattle.acng_expire.specs.Places.{Place, place_at, whole_of, seconds, moment_of, remarked, remarked_row, remarked_place, is_due, emptied_row, emptied, cleared, expired}
-use Rattle.acng_expire.specs.Rounds.{Run, swept, with_marks, with_removals, HasPlaces, IsElseSame, changed_at, how_many, is_due_at, is_doomed}
+use Rattle.acng_expire.specs.Rounds.{Run, swept, with_marks, with_removals, HasPlaces, changed_at, how_many, is_due_at, is_doomed}
 use Rattle.acng_expire.proofs.Changes.{bare_place, else_same}
 use Rattle.acng_expire.proofs.Sweeps.{IsSettled, swept_step, many_same}
 

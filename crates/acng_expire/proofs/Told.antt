@@ -1,5 +1,5 @@
 -- What a desk tells of a path, as its whole body.
-use Rattle.std.proofs.Common.{◌≡◌, ℕ, Bool, true, Option, Some, None, is_some, option_map, Result, Ok, Err, OnOk, refl, sym, ap, ◌∙◌}
+use Rattle.std.proofs.Common.{◌≡◌, ℕ, Option, Some, None, is_some, option_map, Result, Ok, Err, OnOk, refl, sym, ap, ◌∙◌}
 use mathlib.Core.Bool.{true≢false}
 use Rattle.acng_rows.specs.declared.row.Whole.{Whole}
 use Rattle.acng_desk.specs.declared.looks.RowFacts.{RowFacts}

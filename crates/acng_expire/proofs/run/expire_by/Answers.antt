@@ -1,4 +1,4 @@
-use Rattle.std.proofs.Common.{sym, ap, subst, ◌∙◌}
+use Rattle.std.proofs.Common.{sym, subst}
 use Rattle.acng_expire.specs.Rounds.{AreApart}
 use Rattle.acng_expire.specs.Expirations.{HasRun}
 use Rattle.acng_expire.proofs.Ends.{ended, cut_short, cut_run}
