@@ -1,6 +1,7 @@
 pub mod Bodies
 pub mod Changes
 pub mod Ends
+pub mod Lines
 pub mod Marks
 pub mod Orders
 pub mod Rounds

@@ -6,9 +6,11 @@
 #![tactic(auto)]
 
 mod law;
+mod line;
 mod mark;
 mod round;
 mod run;
 
 pub use law::{one_mark_suffices, runs_are_lawful};
+pub use line::{ExpireLine, expire_line, print_expired};
 pub use run::{Expired, expire};
