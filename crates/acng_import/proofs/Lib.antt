@@ -1,0 +1,5 @@
+pub mod Readings
+pub mod Looked
+pub mod Entering
+pub mod Filed
+pub mod Running

@@ -1,0 +1,6 @@
+pub mod Files
+pub mod Fills
+pub mod Halts
+pub mod Imports
+pub mod Looks
+pub mod Puts

@@ -1,0 +1,48 @@
+//! The import of all found files, in the finder's order.
+ghost use Rattle.std.specs.Prelude.{◌≡◌, true, length};
+ghost use Rattle.acng_reach.specs.Caches.{indexes};
+ghost use Rattle.acng_reach.specs.Desks.{cache_of};
+ghost use Rattle.acng_import.specs.Imports.{ImportsAs, MayStop};
+
+use crate::ending::{FileEnds, Halt, Imported};
+use crate::file::import_file;
+use crate::finder::Finder;
+use acng_base::Moment;
+use acng_desk::{Desk, Joint};
+use acng_keeper::{KeepFault, Keeper, SlipOf};
+use acng_reach::Reach;
+use acng_site::Site;
+use std::alloc::Global;
+
+/// Imports found files. The names are those of the indexes that are held as the call begins. Found files stay where they
+/// are.
+pub fn import<S: Site, K: Keeper, T: Joint, F: Finder>(
+    alloc: Global,
+    desk: &mut Desk<S, K, T>,
+    finder: &mut F,
+    now: Moment,
+) -> Imported<SlipOf<K>>
+    ensures imported { K.tells ≡ true → F.tells ≡ true → ImportsAs S.Site K.tells (indexes (cache_of K.tells desk.old)) now
+        (F.bodies finder.old) (length (F.names finder.old)) desk.old (F.faults finder.old) desk.new (F.faults finder.new) result }
+    ensures cause { MayStop desk.old.faults.may_fail result }
+{
+    let mut ends = FileEnds::new(alloc);
+    let reach = match Reach::of(alloc, desk, &[]) {
+        Ok(reach) => reach,
+        Err(KeepFault::Slip(slip)) => return Imported::Stopped { slip, ends },
+        Err(KeepFault::NoMemory) => return Imported::NoMemory,
+    };
+    for i in 0..finder.count() {
+        let end = match import_file(alloc, desk, finder, &reach, i, now) {
+            Ok(end) => end,
+            Err(Halt::Worn) => return Imported::Worn(ends),
+            Err(Halt::Slip(slip)) => return Imported::Stopped { slip, ends },
+            Err(Halt::NoMemory) => return Imported::NoMemory,
+        };
+        desk.keeps();
+        let Ok(()) = ends.push(end) else {
+            return Imported::NoMemory;
+        };
+    }
+    Imported::Done(ends)
+}
