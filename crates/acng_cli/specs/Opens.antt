@@ -82,8 +82,8 @@ pub record EndsBySelf {K Q : Type 0} (tells : Bool) (g : Given) (before after : 
   pub why : CannotRead e.status before after ⊎ RefusesConf g e.status ⊎ HoldsTooMany tells g e.status ⊎ (e.status ≡ 6)
 
 -- the keeper is given back
-pub record IsEnded {S K Q : Type 0} (s : SiteGhosts S) (tells : Bool) (store : K → Store) (g : Given) (before after : ℕ) (e : Maint K Q) : Type
-    0 where
+pub record IsEnded {S K Q : Type 0} (s : SiteGhosts S) (tells : Bool) (store : K → Store) (g : Given) (before after : ℕ)
+    (e : Maint K Q) : Type 0 where
   pub why : SlipsAtStart g (store e.keeper).faults e ⊎ EndsBySelf tells g before after e
   pub later : Later g.store.faults (store e.keeper).faults
   pub still : tells ≡ true → IsFaithful s (store e.keeper).kept

@@ -108,7 +108,8 @@ fn start_desk<S: Site, K: Keeper, T: Joint>(
 ) -> Opened<S, K, T>
     requires faithful { K.tells ≡ true → IsFaithful S.Site (K.kept keeper) }
     requires told { S.tells ≡ true → K.tells ≡ true }
-    ensures opened { (g : Given) (before after : ℕ) → g.store ≡ record { kept = K.kept keeper; next_id = K.next keeper; faults = K.faults keeper }
+    ensures opened { (g : Given) (before after : ℕ)
+        → g.store ≡ record { kept = K.kept keeper; next_id = K.next keeper; faults = K.faults keeper }
         → g.next_try ≡ right.next → MaySay g.text g.lists conf
         → OpensBy S.Site K.tells (λ k. record { kept = K.kept k; next_id = K.next k; faults = K.faults k }) g before after words result }
 {
