@@ -22,20 +22,23 @@
 
 mod attempt;
 mod decision;
+mod downloading;
 mod exchange;
+mod followed;
 mod grows;
 mod law;
 mod lead;
-mod load;
 mod loader;
+mod locked;
 mod order;
 mod standing;
 mod ticketed;
 
+pub use downloading::download;
 pub use exchange::{End, Event, Exchange, Pending};
+pub use followed::{Joined, load};
 pub use grows::Grows;
 pub use law::{downloads_allowed, downloads_keep};
-pub use load::download;
 pub use loader::Loader;
 pub use order::{OldOrder, Order, PartOrder};
 pub use standing::{Standing, Turned};

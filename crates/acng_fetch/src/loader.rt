@@ -32,6 +32,20 @@ pub type SlipIn<B> = <<B as Grows>::File as BodyFile>::Slip;
 /// Why a body ends.
 pub type WhyOf<B> = Why<<B as Grows>::Slip, <<B as Grows>::File as BodyFile>::Slip>;
 
+/// What is to be seen of a body that opens.
+pub(crate) fn opening_plan() -> Seen
+    ensures { result ≡ opening }
+{
+    Seen {
+        url: None,
+        stage: Stage::Opening,
+        label: None,
+        facts: Facts::none(),
+        size: 0,
+        shown: None,
+    }
+}
+
 impl<B: Grows> Loader<B> {
     /// The loader of a body that opens.
     pub fn new(body: B) -> Loader<B>
@@ -40,14 +54,7 @@ impl<B: Grows> Loader<B> {
         ensures body { result.body ≡ body }
     {
         Loader {
-            plan: Seen {
-                url: None,
-                stage: Stage::Opening,
-                label: None,
-                facts: Facts::none(),
-                size: 0,
-                shown: None,
-            },
+            plan: opening_plan(),
             body,
         }
     }

@@ -8,8 +8,8 @@ ghost use Rattle.acng_desk.specs.Settles.{Ends, IsFault, IsLoaded, was_label};
 ghost use Rattle.acng_desk.specs.Tickets.{IsUnused, errand_of, first_in, held_of, last_in, part_of};
 ghost use Rattle.acng_fetch.specs.LoadsBy.{LoadsBy};
 
+use crate::downloading::download;
 use crate::lead::Led;
-use crate::load::download;
 use crate::loader::Loader;
 use crate::order::{OldOrder, Order, PartOrder};
 use acng_base::{CachePath, NoMemory, Text, Texts};
@@ -81,7 +81,10 @@ fn old_order(old: &Option<OldFile>) -> Option<OldOrder>
 }
 
 // What the ticket is for.
-fn order_of<S: Site, F: BodyFile>(alloc: Global, ticket: &Ticket<S, F>) -> Result<Order, NoMemory>
+pub(crate) fn order_of<S: Site, F: BodyFile>(
+    alloc: Global,
+    ticket: &Ticket<S, F>,
+) -> Result<Order, NoMemory>
     ensures { IfOk result (λ order. order ≡ errand_of ticket.now.info) }
 {
     let info = ticket.info();

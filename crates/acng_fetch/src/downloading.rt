@@ -7,7 +7,7 @@ ghost use Rattle.acng_answer.specs.Stages.{without_interim};
 ghost use Rattle.acng_base.specs.Moments.{moment_limit};
 ghost use Rattle.acng_site.specs.Honest.{IsHonest, heard};
 ghost use Rattle.acng_grow.specs.declared.facts.Seen.{Seen};
-ghost use Rattle.acng_grow.specs.Effects.{Part, opening, runs};
+ghost use Rattle.acng_grow.specs.Effects.{Errand, Part, opening, runs};
 ghost use Rattle.acng_grow.specs.Download.{On, ask_of, begins, goes_on, left_of as left_after, since_of, turn, worn};
 ghost use Rattle.acng_answer.specs.Blocks.{IsBounded};
 ghost use Rattle.acng_grow.specs.Keeps.{attempts_end};
@@ -388,6 +388,18 @@ fn close_by<B: Grows>(order: &Order, loader: &mut Loader<B>, fault: FaultOf<B>)
             _ => loader.cut(Why::NoMemory),
         },
     }
+}
+
+/// Closes a body that didn't open, since memory was refused before the first attempt.
+pub(crate) fn close_unbegun<B: Grows>(loader: &mut Loader<B>)
+    requires opening { loader.old.plan ≡ opening }
+    requires agrees { Agrees (B.seen loader.old.body) loader.old.plan }
+    ensures shown { IsFault loader.new.plan.shown }
+    ensures ended { (e : Errand) (first n : ℕ) → IsEnded e first loader.new.plan n }
+    ensures agrees { Agrees (B.seen loader.new.body) loader.new.plan }
+    ensures stock { B.stock loader.new.body ≡ B.stock loader.old.body }
+{
+    loader.refuse(Why::NoMemory);
 }
 
 /// Loads a body: it ends as the download says, with the attempts left that this leaves, or a fault of its file or want of

@@ -5,7 +5,7 @@ use Rattle.acng_fetch.specs.Events.{left_of}
 use Rattle.acng_fetch.specs.Loads.{Turns, stand_of}
 use Rattle.acng_fetch.proofs.Tests.{some_is}
 use Rattle.acng_fetch.proofs.Told.{turn_headed}
-use Rattle.acng_fetch.proofs.load.answered.Goals as goal
+use Rattle.acng_fetch.proofs.downloading.answered.Goals as goal
 
 pub headed-requires-clause-allowed : goal.headed-requires-clause-allowed
 headed-requires-clause-allowed g c = λ h.

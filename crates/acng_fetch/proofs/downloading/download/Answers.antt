@@ -1,6 +1,6 @@
 use Rattle.std.proofs.Common.{◌+◌, inl, sym, subst}
 use Rattle.acng_fetch.specs.Loads.{FaultsIn, IsEnded}
-use Rattle.acng_fetch.proofs.load.download.Goals as goal
+use Rattle.acng_fetch.proofs.downloading.download.Goals as goal
 
 pub try_on-requires-clause-stands : goal.try_on-requires-clause-stands
 try_on-requires-clause-stands g c =

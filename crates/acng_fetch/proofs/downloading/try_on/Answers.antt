@@ -7,7 +7,7 @@ use Rattle.acng_fetch.specs.Loads.{StandsIn, Turns, stand_of}
 use Rattle.acng_fetch.specs.Orders.{ErrandKeeps}
 use Rattle.acng_fetch.proofs.Downloads.{Given}
 use Rattle.acng_fetch.proofs.Steps.{errand_sooner, turn_allowed, turn_fits, goes_at, left_at}
-use Rattle.acng_fetch.proofs.load.try_on.Goals as goal
+use Rattle.acng_fetch.proofs.downloading.try_on.Goals as goal
 
 pub attempt_once-requires-clause-keeps : goal.attempt_once-requires-clause-keeps
 attempt_once-requires-clause-keeps g c =

@@ -5,7 +5,7 @@ use Rattle.acng_grow.specs.Download.{On, goes_on, left_of}
 use Rattle.acng_fetch.specs.Fits.{Fits}
 use Rattle.acng_fetch.specs.Loads.{IsTried, StandsIn, stand_of}
 use Rattle.acng_fetch.specs.Stocks.{Agrees}
-use Rattle.acng_fetch.proofs.load.try_on.Given as goal
+use Rattle.acng_fetch.proofs.downloading.try_on.Given as goal
 
 abbrev pub invariant-loop-alloc : goal.invariant-loop-alloc
 invariant-loop-alloc g l =
