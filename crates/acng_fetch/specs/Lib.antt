@@ -8,5 +8,6 @@ pub mod Leads
 pub mod Loads
 pub mod LoadsBy
 pub mod Orders
+pub mod Queues
 pub mod Rooms
 pub mod Stocks
