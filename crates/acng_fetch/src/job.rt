@@ -31,9 +31,9 @@ impl<S: Site, K: Keeper, P: OriginSlip> Job<S, K, P> {
 }
 
 /// Who runs downloads.
-pub trait Loaders<S: Site, K: Keeper, P: OriginSlip> {
+pub trait Loaders<J> {
     /// Hands a download over. Who gets it back runs it.
-    fn hand(&self, job: Job<S, K, P>) -> Result<(), Job<S, K, P>>
+    fn hand(&self, job: J) -> Result<(), J>
         ensures back { IfErr result (λ it. it ≡ job) };
 }
 
@@ -41,8 +41,8 @@ pub trait Loaders<S: Site, K: Keeper, P: OriginSlip> {
 #[derive(Debug, Drop)]
 pub struct NoLoaders;
 
-impl<S: Site, K: Keeper, P: OriginSlip> Loaders<S, K, P> for NoLoaders {
-    fn hand(&self, job: Job<S, K, P>) -> Result<(), Job<S, K, P>>
+impl<J> Loaders<J> for NoLoaders {
+    fn hand(&self, job: J) -> Result<(), J>
         ensures back { IfErr result (λ it. it ≡ job) }
     {
         Err(job)

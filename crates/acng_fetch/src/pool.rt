@@ -109,7 +109,7 @@ fn run<R: Wait, S: Site, K: Keeper, O: Origin<S>>(
     let _ = load(rt, alloc, ticket, origin, &joined.body, desk);
 }
 
-impl<R: Wait, S: Site, K: Keeper, P: OriginSlip> Loaders<S, K, P> for Pool<R, S, K, P> {
+impl<R: Wait, S: Site, K: Keeper, P: OriginSlip> Loaders<Job<S, K, P>> for Pool<R, S, K, P> {
     fn hand(&self, job: Job<S, K, P>) -> Result<(), Job<S, K, P>>
         ensures back { IfErr result (λ it. it ≡ job) }
     {
