@@ -1,5 +1,6 @@
 pub mod Brokens
 pub mod Fronts
+pub mod Joining
 pub mod Parting
 pub mod Parts
 mod Rows

@@ -32,7 +32,7 @@ use Rattle.acng_reply.proofs.Parting.{parted, broken_head, through_all}
 use Rattle.acng_reply.proofs.Parts.{same_part, told_part, told_text}
 use Rattle.acng_reply.proofs.Texts.{plain, head_all, head_front}
 
-abbrev reply_by : ReplyHead → Sending → List ℕ → Reply
+abbrev pub reply_by : ReplyHead → Sending → List ℕ → Reply
 reply_by head how body = record { head = head; sending = how; body = body; whole = true }
 
 abbrev pub followed : {Q : Type 0} → ℕ → Option Label → FollowStop Q → Followed Q
@@ -73,7 +73,7 @@ due_none false size more = ap (λ b. b || more) (none_le size)
 
 -- ---- a line
 
-line_is : (m : Manner) (f : Facts) (text : List ℕ) (from total : ℕ)
+pub line_is : (m : Manner) (f : Facts) (text : List ℕ) (from total : ℕ)
     → file_reply m f text (NoPart from total) ≡ line_reply m (line.NoPart total)
 line_is m f text from total =
     ap (λ s. reply_by (line_reply m (line.NoPart total)).head s (line_reply m (line.NoPart total)).body)
@@ -106,7 +106,7 @@ alone_none : (head : ReplyHead) (b : Bool) → reply_by head (cond b Length Leng
 alone_none head true = refl
 alone_none head false = refl
 
-alone_is : (m : Manner) (f : Facts) (text : List ℕ) (p : Pick) → is_alone m p ≡ true → file_reply m f text p ≡ plain (file_head m f p) []
+pub alone_is : (m : Manner) (f : Facts) (text : List ℕ) (p : Pick) → is_alone m p ≡ true → file_reply m f text p ≡ plain (file_head m f p) []
 alone_is m f text Unmodified is = alone_none (file_head m f Unmodified) m.bare
 alone_is m f text (NoPart from total) is = absurd (cc)
 alone_is m f text (Section from stop total) is =
@@ -167,7 +167,7 @@ body_is m (NoPart from total) text is = absurd (cc)
 body_is m (Section from stop total) text is = refl
 body_is m All text is = refl
 
-part_is : (m : Manner) (f : Facts) (text : List ℕ) (p : Pick) (part : List ℕ) → has_part m p ≡ true
+pub part_is : (m : Manner) (f : Facts) (text : List ℕ) (p : Pick) (part : List ℕ) → has_part m p ≡ true
     → part_in text (range_of p).0 (range_of p).1 ≡ part
     → file_reply m f text p ≡ reply_by (file_head m f p) (sending_of m (file_head m f p).framing) part
 part_is m f text p part has is =

@@ -76,7 +76,7 @@ pub one_cut : (body : List ℕ) → concat (one body) ≡ body
 one_cut [] = refl
 one_cut (b ∷ bs) = append-nil (b ∷ bs)
 
-one_framed : (body : List ℕ) → framed Length (one body) ≡ body
+pub one_framed : (body : List ℕ) → framed Length (one body) ≡ body
 one_framed [] = refl
 one_framed (b ∷ bs) = append-nil (b ∷ bs)
 

@@ -1,4 +1,5 @@
 pub mod Heads
+pub mod Joined
 pub mod Lines
 pub mod Manners
 pub mod Parted

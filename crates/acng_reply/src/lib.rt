@@ -8,6 +8,7 @@
 #![tactic(auto)]
 
 mod head;
+mod joined;
 mod line;
 mod manner;
 mod part;
@@ -15,6 +16,7 @@ mod pick;
 mod send;
 
 pub use head::{closes, file_head, line_head, page_head, sending_of};
+pub use joined::follow_part;
 pub use line::Line;
 pub use manner::Manner;
 pub use part::send_part;

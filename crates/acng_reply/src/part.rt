@@ -121,7 +121,7 @@ fn send_no_part<S: Site, F: BodyFile, P: OriginSlip, L: Link>(
     }
 }
 
-fn nothing_sent<Q>(label: Option<Label>, stop: FollowStop<Q>) -> Followed<Q>
+pub(crate) fn nothing_sent<Q>(label: Option<Label>, stop: FollowStop<Q>) -> Followed<Q>
     ensures { result ≡ record { sent = 0; label = label; stop = stop } }
 {
     Followed {
@@ -132,7 +132,7 @@ fn nothing_sent<Q>(label: Option<Label>, stop: FollowStop<Q>) -> Followed<Q>
 }
 
 // How the sending of a text ended.
-fn stop_of<Q>(outcome: Result<(), Failed>) -> FollowStop<Q>
+pub(crate) fn stop_of<Q>(outcome: Result<(), Failed>) -> FollowStop<Q>
     ensures { result ≡ stop_of_outcome outcome }
 {
     match outcome {
