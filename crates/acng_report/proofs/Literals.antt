@@ -21,6 +21,9 @@ use Rattle.acng_report.specs.Tables.{table}
 abbrev lf : List ℕ
 lf = 10 ∷ []
 
+abbrev index : List ℕ
+index = codes "h/dists/x/InRelease"
+
 abbrev line : List ℕ → ℕ → Class → Option Moment → Line
 line path size class mark = record { path = path; size = size; class = class; mark = mark }
 
@@ -32,8 +35,8 @@ empty_table = refl
 
 -- a mark, none, and the sum of the sizes
 three_rows : table (line (codes "h/a.deb") 7 Solid None ∷ line (codes "h/b&<>") 0 Forbidden (Some (record { 0 = 0 }))
-    ∷ line (codes "h/dists/x/InRelease") 2199023255552 Volatile (Some (record { 0 = 1000000 })) ∷ [])
-    ≡ codes "h/a.deb 7 solid -" ++ lf ++ codes "h/b&<> 0 forbidden 0" ++ lf ++ codes "h/dists/x/InRelease 2199023255552 volatile 1000000" ++ lf
+    ∷ line index 2199023255552 Volatile (Some (record { 0 = 1000000 })) ∷ [])
+    ≡ codes "h/a.deb 7 solid -" ++ lf ++ codes "h/b&<> 0 forbidden 0" ++ lf ++ index ++ codes " 2199023255552 volatile 1000000" ++ lf
     ++ codes "rows 3 bytes 2199023255559" ++ lf
 unfolding digits
 three_rows = refl
