@@ -9,6 +9,7 @@ test:
 	bash tests/loopback.sh
 	bash tests/cache.sh
 	bash tests/apt.sh
+	bash tests/fetch_table.sh
 	bash tests/downloads.sh
 	bash tests/check_conf.sh
 	bash tests/folder_syncs.sh
