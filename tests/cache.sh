@@ -137,6 +137,28 @@ if [ -c /dev/full ]; then
     said 'a client that takes nothing' $? 'another status'
 fi
 
+# ---- memory
+
+# With as little memory as a hit takes, a configuration of 4 MB is too much: status 6, and nothing is written.
+mkdir "$work/long"
+for _ in $(seq 1000); do printf '#%4000s\n' ''; done > "$work/long/acng.conf"
+printf '%b\r\n\r\n' "$(get whole/a_1_all.deb)" > "$work/request"
+{ file_head "$deb"; cat "$work/body"; } > "$work/wanted"
+# run_within KIB CONF: the status over the folder, by the configuration, with so much memory
+run_within() {
+    (ulimit -v "$1"; exec "$program" once --conf "$2" --cache "$cache" < "$work/request" > "$work/reply" 2> "$work/said")
+}
+bad=1
+for within in $(seq 4000 1000 60000); do
+    run_within "$within" "$conf" && cmp -s "$work/reply" "$work/wanted" && { bad=0; break; }
+done 2> /dev/null
+said 'a hit with little memory' "$bad" 'no limit is enough'
+run_within "$within" "$work/long/acng.conf"
+{ [ $? = 6 ] && [ ! -s "$work/reply" ] && [ ! -s "$work/said" ]; }
+said 'a configuration that is too long for it' $? 'another status, or something was written'
+run_within 60000 "$work/long/acng.conf" && cmp -s "$work/reply" "$work/wanted"
+said 'the same configuration with more memory' $? 'another status or other bytes'
+
 # ---- another program
 
 mkdir "$work/shared"
