@@ -10,6 +10,7 @@ use Rattle.acng_grow.specs.declared.facts.Facts.{Facts}
 use Rattle.acng_grow.specs.declared.facts.Stage.{Stage}
 use Rattle.acng_grow.specs.declared.facts.Stage.TheVariants as stage
 use Rattle.acng_grow.specs.declared.why.Shown.{Shown}
+use Rattle.acng_grow.specs.Agrees.{label_agrees}
 use Rattle.acng_grow.specs.Causes.{IsLawful}
 use Rattle.acng_grow.specs.Grown.{Grown, text_of}
 use Rattle.acng_grow.specs.Keeps.{IsSound, HasTotal}
@@ -70,17 +71,17 @@ sent_by_all : (Q : Type 0) (m : Manner) (r : Request) (f : Found) (c : Option Sh
 sent_by_all Q m r f None = refl
 sent_by_all Q m r f (Some c) = refl
 
-ends_by : {Q : Type 0} (m : Manner) (r : Request) (f : Found) (c : Option Shown) (note : Note Q) (io : Sent)
+ends_by : {S Q : Type 0} (s : SiteGhosts S) (m : Manner) (r : Request) (f : Found) (c : Option Shown) (note : Note Q) (io : Sent)
     → GivesFile (found_by m r f c) note io
-    → EndsWhole (found_by m r f c) note io ⊎ EndsCut (found_by m r f c) note io ⊎ EndsBroken (found_by m r f c) note io
-ends_by {Q} m r f c note io (inl (inl g)) = inl (record {
+    → EndsWhole (found_by m r f c) note io ⊎ EndsCut s f.entry.asked (found_by m r f c) note io ⊎ EndsBroken (found_by m r f c) note io
+ends_by {S} {Q} s m r f c note io (inl (inl g)) = inl (record {
   cause = ap (λ n. n.cause) g.0;
   whole = ap (λ n. n.whole) g.0 ∙ whole_by Q m r f c;
   sent = ap (λ n. n.sent) g.0 ∙ sent_by_all Q m r f c;
   wrote = g.1;
 })
-ends_by m r f c note io (inl (inr b)) = inr (inr (record { cause = b.cause; whole = b.whole; wrote = b.wrote }))
-ends_by m r f c note io (inr s) = inr (inl (record { cause = inr (s.slip, s.cause); whole = s.whole; sent = s.few; wrote = s.wrote }))
+ends_by s m r f c note io (inl (inr b)) = inr (inr (record { cause = b.cause; whole = b.whole; wrote = b.wrote }))
+ends_by s m r f c note io (inr b) = inr (inl (record { cause = inr (b.slip, b.cause); whole = b.whole; sent = b.few; wrote = b.wrote }))
 
 -- ---- a note over what was found
 
@@ -98,21 +99,22 @@ module _ {S Q : Type 0} (s : SiteGhosts S) (tells : Bool) (m : Manner) (r : Requ
         stands = subst (λ l. IsTextOf s tells path l f.text) (sym same) text;
         there = λ w k. subst (λ l. IsThere s tells path l r f) (sym same) (there k);
         labelled = λ k. subst IsSome (sym same) (labelled k);
+        agrees = λ k. subst (λ l. label_agrees f.entry.asked.first_try f.entry.asked.old l ≡ true) (sym same) (is.label k);
         status = status_given (answer_of m r f) note io gives;
         part = part_given (answer_of m r f) note io gives;
-        ends = ends_by m r f f.look.shown note io gives;
+        ends = ends_by s m r f f.look.shown note io gives;
       }
 
 -- ---- what was picked of a whole text is there
 
-picked_by : (r : Request) (f : Facts) (b : Bool) → IsPicked f (cond b Unmodified (by_range (lawful_range r f)))
+pub picked_by : (r : Request) (f : Facts) (b : Bool) → IsPicked f (cond b Unmodified (by_range (lawful_range r f)))
 picked_by r f true = tt
 picked_by r f false = picked r f
 
 total_of : (f : Facts) (size total : ℕ) → IfSome f.total (λ t. t ≡ size) → f.total ≡ Some total → total ≡ size
 total_of f size total has is = subst (λ o. IfSome o (λ t. t ≡ size)) is has
 
-there_by : {S : Type 0} (s : SiteGhosts S) (tells : Bool) (path : List ℕ) (label : Option Label) (f : Facts) (text : List ℕ) (p : Pick)
+pub there_by : {S : Type 0} (s : SiteGhosts S) (tells : Bool) (path : List ℕ) (label : Option Label) (f : Facts) (text : List ℕ) (p : Pick)
     → IsPicked f p → IfSome f.total (λ t. t ≡ length text) → (s.tells ≡ true → tells ≡ true → IfSome label (λ l. StandsWhole s path l text))
     → PartIsThere s tells path label text p
 there_by s tells path label f text Unmodified is total whole = tt

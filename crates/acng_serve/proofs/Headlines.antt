@@ -129,8 +129,8 @@ module _ {S Q : Type 0} (s : SiteGhosts S) (tells : Bool) (m : Manner) (r : Requ
     abbrev file : List ℕ
     file = file_for s path label f.text
 
-    ends : EndsWhole (filed m f p) note io ⊎ EndsCut (filed m f p) note io ⊎ EndsBroken (filed m f p) note io
-    ends = subst (λ o. EndsWhole (found_by m r f o) note io ⊎ EndsCut (found_by m r f o) note io
+    ends : EndsWhole (filed m f p) note io ⊎ EndsCut s f.entry.asked (filed m f p) note io ⊎ EndsBroken (filed m f p) note io
+    ends = subst (λ o. EndsWhole (found_by m r f o) note io ⊎ EndsCut s f.entry.asked (found_by m r f o) note io
         ⊎ EndsBroken (found_by m r f o) note io) unshown n.ends
 
     all_there : note.whole ≡ true → reply.body ≡ part_of p file
@@ -140,7 +140,7 @@ module _ {S Q : Type 0} (s : SiteGhosts S) (tells : Bool) (m : Manner) (r : Requ
     not_both : note.whole ≡ true → note.whole ≡ false → ⊥
     not_both w c = let e : true ≡ false = sym w ∙ c in absurd (cc)
 
-    made : (e : EndsWhole (filed m f p) note io ⊎ EndsCut (filed m f p) note io ⊎ EndsBroken (filed m f p) note io)
+    made : (e : EndsWhole (filed m f p) note io ⊎ EndsCut s f.entry.asked (filed m f p) note io ⊎ EndsBroken (filed m f p) note io)
         → (note.sent ≤ length reply.body) × (note.whole ≡ true → note.sent ≡ length reply.body)
         × (WroteAll (through note.sent note.whole reply) io ⊎ WroteFront reply note.sent io)
     made (inl e) = (

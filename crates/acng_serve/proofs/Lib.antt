@@ -4,6 +4,7 @@ pub mod FileNotes
 pub mod Filing
 pub mod Frees
 pub mod Headlines
+pub mod Lawfuls
 mod Rows
 pub mod Rules
 pub mod Sendings

@@ -1,5 +1,5 @@
 -- What a desk follows of the configuration stays as it is.
-use Rattle.std.proofs.Common.{◌≡◌, inl, inr, ◌⊎◌, ℕ, Bool, List, Option, Some, None, refl, ap, ◌∙◌}
+use Rattle.std.proofs.Common.{◌≡◌, inl, inr, ℕ, Bool, List, Option, Some, None, refl, ap, ◌∙◌}
 use Rattle.acng_base.specs.declared.clock.Moment.{Moment}
 use Rattle.acng_site.specs.declared.site.Site.{Ghosts as SiteGhosts}
 use Rattle.acng_conf.specs.Settings.{Settings}
@@ -16,7 +16,7 @@ use Rattle.acng_reply.specs.Replies.{Sent}
 use Rattle.acng_serve.specs.declared.note.Note.{Note}
 use Rattle.acng_serve.specs.Answered.{answered_as, world_of}
 use Rattle.acng_serve.specs.Answers.{AfterAny, AnswersAt}
-use Rattle.acng_serve.specs.Houses.{AfterFile, Settled}
+use Rattle.acng_serve.specs.Houses.{Settled}
 
 ended-rules : (e : Ending) (t : Ticketed) (g : Grown) (p : Plain) → (ended e t g p).rules ≡ p.rules
 ended-rules ending.Unknown t g p = refl

@@ -7,8 +7,8 @@ use Rattle.acng_request.specs.Nexts.{next, Ends}
 use Rattle.acng_serve.specs.declared.note.Note.{Note}
 use Rattle.acng_serve.specs.declared.notes.SessionStop.{SessionStop}
 use Rattle.acng_serve.specs.declared.notes.SessionStop.TheVariants as stop
-use Rattle.acng_serve.specs.Sessions.{Head, ReadsAs, WasUndecided, ReadsFew, ReadLast, Read, ReadOf, Rule, Side, side, RepliesTo, OverOr, Serves, IsSession, stops, most_requests}
-use Rattle.acng_serve.specs.Turns.{Takes, TakesOf, Replied, NoneCame}
+use Rattle.acng_serve.specs.Sessions.{Head, ReadsAs, WasUndecided, ReadsFew, Read, ReadOf, Rule, Side, side, OverOr, Serves, IsSession, stops, most_requests}
+use Rattle.acng_serve.specs.Turns.{TakesOf, Replied, NoneCame}
 
 -- ---- what was read so far
 

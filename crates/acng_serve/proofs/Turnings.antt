@@ -4,14 +4,14 @@ use Rattle.std.specs.Io.KnownBytes.{Keeps, Consumes}
 use Rattle.acng_base.specs.Buffers.{Moves}
 use Rattle.acng_base.specs.declared.link.Link.{Ghosts as LinkGhosts}
 use Rattle.acng_request.specs.Gots.{GivesRequest, ReadsWhileUndecided}
-use Rattle.acng_request.specs.Nexts.{next, Asks, Refuses, Ends}
+use Rattle.acng_request.specs.Nexts.{next, Refuses, Ends}
 use Rattle.acng_request.specs.declared.got.HeadFault.{HeadFault}
 use Rattle.acng_request.specs.declared.got.Request.{Request}
 use Rattle.acng_serve.specs.declared.note.Note.{Note}
 use Rattle.acng_serve.specs.declared.notes.SessionStop.{SessionStop}
-use Rattle.acng_serve.specs.declared.session.Turn.{Turn}
+use Rattle.acng_serve.specs.declared.owned.Turn.{Turn}
 use Rattle.acng_serve.specs.Sessions.{Head, ReadsAs, WasUndecided, Rule}
-use Rattle.acng_serve.specs.Turns.{Takes, TakesOf, Replied, Turned, turn_of}
+use Rattle.acng_serve.specs.Turns.{TakesOf, Replied, Turned, turn_of}
 
 -- ---- how far the link was read
 

@@ -9,10 +9,12 @@ use Rattle.acng_class.specs.declared.class.Class.{Class}
 use Rattle.acng_class.specs.declared.class.Class.TheVariants.{Solid, Volatile, Forbidden}
 use Rattle.acng_class.specs.Classes.{class_of}
 use Rattle.acng_request.specs.declared.got.Request.{Request}
+use Rattle.acng_grow.specs.declared.asked.Asked.{Asked}
 use Rattle.acng_grow.specs.declared.facts.Stage.TheVariants as stage
 use Rattle.acng_grow.specs.declared.why.Shown.{Shown}
 use Rattle.acng_grow.specs.Agrees.{label_agrees, cause_agrees}
 use Rattle.acng_grow.specs.Causes.{IsLawful}
+use Rattle.acng_grow.specs.Looks.{CauseStands}
 use Rattle.acng_grow.specs.Stands.{StandsFor, StandsWhole, FactsStand}
 use Rattle.acng_desk.specs.declared.entry.BrimKind.{BrimKind}
 use Rattle.acng_reply.specs.declared.manner.Manner.{Manner}
@@ -57,9 +59,9 @@ IsThere s tells path label r f = PartIsThere s tells path label f.text (pick r (
 
 -- ---- a file's note
 
--- why a file's reply was cut behind its head
-abbrev pub IsCut : {Q : Type 0} → Cause Q → Type 0
-IsCut {Q} c = ((shown : Shown) × (c ≡ cause.Load shown)) ⊎ ((slip : Q) × (c ≡ cause.KeeperSlip slip))
+-- why a file's reply was cut behind its head: a cause that is lawful for what was asked, or a slip of the body's file
+abbrev pub IsCut : {S Q : Type 0} → SiteGhosts S → Asked → Cause Q → Type 0
+IsCut {S} {Q} s asked c = ((shown : Shown) × (c ≡ cause.Load shown) × CauseStands s asked shown) ⊎ ((slip : Q) × (c ≡ cause.KeeperSlip slip))
 
 -- the reply went out; or it was cut behind the head; or the link failed
 pub record EndsWhole {Q : Type 0} (a : Answer Q) (note : Note Q) (io : Sent) : Type 0 where
@@ -68,8 +70,8 @@ pub record EndsWhole {Q : Type 0} (a : Answer Q) (note : Note Q) (io : Sent) : T
   pub sent : note.sent ≡ length a.reply.body
   pub wrote : WroteAll a.reply io
 
-pub record EndsCut {Q : Type 0} (a : Answer Q) (note : Note Q) (io : Sent) : Type 0 where
-  pub cause : IsCut note.cause
+pub record EndsCut {S Q : Type 0} (s : SiteGhosts S) (asked : Asked) (a : Answer Q) (note : Note Q) (io : Sent) : Type 0 where
+  pub cause : IsCut s asked note.cause
   pub whole : note.whole ≡ false
   pub sent : note.sent ≤ length a.reply.body
   pub wrote : WroteAll (through note.sent false a.reply) io
@@ -89,9 +91,11 @@ pub record FileNote {S Q : Type 0} (s : SiteGhosts S) (tells : Bool) (m : Manner
   pub stands : IsTextOf s tells path note.label found.text
   pub there : note.whole ≡ true → found.look.shown ≡ None → IsThere s tells path note.label r found
   pub labelled : found.look.shown ≡ None → IsSome note.label
+  pub agrees : found.entry.kept ≡ false → label_agrees found.entry.asked.first_try found.entry.asked.old note.label ≡ true
   pub status : note.status ≡ (answer_of {Q = Q} m r found).note.status
   pub part : note.part ≡ (answer_of {Q = Q} m r found).note.part
-  pub ends : EndsWhole (answer_of m r found) note io ⊎ EndsCut (answer_of m r found) note io ⊎ EndsBroken (answer_of m r found) note io
+  pub ends : EndsWhole (answer_of m r found) note io ⊎ EndsCut s found.entry.asked (answer_of m r found) note io
+      ⊎ EndsBroken (answer_of m r found) note io
 
 -- ---- the table
 

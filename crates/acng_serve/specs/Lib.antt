@@ -1,3 +1,4 @@
+pub mod Among
 pub mod Answered
 pub mod Answers
 pub mod Causes

@@ -6,8 +6,8 @@ use Rattle.acng_request.specs.Nexts.{next, Ends}
 use Rattle.acng_serve.specs.declared.note.Note.{Note}
 use Rattle.acng_serve.specs.declared.notes.SessionStop.{SessionStop}
 use Rattle.acng_serve.specs.declared.notes.SessionStop.TheVariants as stop
-use Rattle.acng_serve.specs.declared.session.Turn.{Turn}
-use Rattle.acng_serve.specs.declared.session.Turn.TheVariants as turn
+use Rattle.acng_serve.specs.declared.owned.Turn.{Turn}
+use Rattle.acng_serve.specs.declared.owned.Turn.TheVariants as turn
 use Rattle.acng_serve.specs.Sessions.{Head, ReadsAs, WasUndecided, RepliesTo, EndsUnread, Rule, side, stops}
 
 -- what a turn takes of what is held and of what the link has left

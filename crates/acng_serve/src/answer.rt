@@ -168,7 +168,7 @@ fn answer_file<S: Site, K: Keeper, O: Origin<S>, L: Link>(
 }
 
 // Sends a body that is held. It is followed as any other: as one that a download kept.
-fn answer_held<S: Site, F: BodyFile, P: OriginSlip, L: Link>(
+pub(crate) fn answer_held<S: Site, F: BodyFile, P: OriginSlip, L: Link>(
     path: CachePath,
     held: Held<F>,
     manner: Manner,

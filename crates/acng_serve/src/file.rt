@@ -71,14 +71,14 @@ fn send_pick<S: Site, F: BodyFile, P: OriginSlip, L: Link>(
     }
 }
 
-fn is_whole<Q>(stop: &FollowStop<Q>) -> bool
+pub(crate) fn is_whole<Q>(stop: &FollowStop<Q>) -> bool
     ensures { result ≡ is_whole_of stop.now }
 {
     matches!(stop, FollowStop::Whole)
 }
 
 // Why the sending ended.
-fn cause_of<Q: Drop>(stop: FollowStop<Q>, pick: Pick) -> Cause<Q>
+pub(crate) fn cause_of<Q: Drop>(stop: FollowStop<Q>, pick: Pick) -> Cause<Q>
     ensures { result ≡ stop_cause pick stop }
 {
     match stop {

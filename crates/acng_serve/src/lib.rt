@@ -7,16 +7,21 @@
 //! one after another.
 #![tactic(auto)]
 
+mod among;
 mod answer;
+mod connection;
 mod file;
+mod house;
 mod note;
 mod notes;
+mod owned;
 mod refuse;
-mod session;
 mod way;
 
 pub use answer::answer_one;
+pub use connection::session;
+pub use house::House;
 pub use note::{Cause, Note};
 pub use notes::{Notes, SessionEnd, SessionStop};
+pub use owned::session_owned;
 pub use refuse::answer_unread;
-pub use session::session_owned;

@@ -1,10 +1,10 @@
-use Rattle.std.proofs.Common.{◌≡◌, ◌==◌, ◌||◌, not, Ok, Err, refl, ap, subst}
+use Rattle.std.proofs.Common.{◌==◌, ◌||◌, not, Ok, Err, refl, ap, subst}
 use Rattle.std.proofs.KnownBytes.{Keeps-refl}
 use Rattle.acng_reply.specs.declared.manner.Manner.{Manner}
 use Rattle.acng_serve.specs.Causes.{is_client_fault}
 use Rattle.acng_serve.specs.Sessions.{by_desk, standing, side, between, when, stop_after}
 use Rattle.acng_serve.proofs.Turnings.{takes_request, takes_refused, takes_none, turned_reply}
-use Rattle.acng_serve.proofs.session.serve_next.Goals as goal
+use Rattle.acng_serve.proofs.owned.serve_next.Goals as goal
 
 pub returns-in-Request-clause-turned : goal.returns-in-Request-clause-turned
 returns-in-Request-clause-turned g c =

@@ -1,8 +1,8 @@
-use Rattle.std.proofs.Common.{◌≡◌, ◌+◌, ◌-◌, ◌≤◌, ◌<◌, ◌==◌, ℕ, suc, List, [], ◌∷◌, ◌++◌, length, vec_capacity, None, Some, refl, ap, sym, subst, ◌∙◌, arith}
+use Rattle.std.proofs.Common.{◌≡◌, ◌+◌, ◌-◌, ◌≤◌, ◌<◌, ℕ, suc, [], ◌∷◌, ◌++◌, length, refl, ap, sym, subst, ◌∙◌, arith}
 use Rattle.acng_serve.specs.declared.notes.SessionStop.TheVariants as stop
 use Rattle.acng_serve.specs.Sessions.{by_desk, standing}
 use Rattle.acng_serve.proofs.Stills.{Stills, stills_fresh, stills_on, over_replied, over_unread, over_limit, unserved, session_as, length-snoc}
-use Rattle.acng_serve.proofs.session.session_owned.Goals as goal
+use Rattle.acng_serve.proofs.owned.session_owned.Goals as goal
 
 pub loop-more-init : goal.loop-more-init
 loop-more-init g c =

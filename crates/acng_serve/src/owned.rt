@@ -27,11 +27,11 @@ use acng_site::{Origin, Site};
 use std::alloc::Global;
 
 /// The most requests of a connection.
-const MOST_REQUESTS: usize = 1_000;
+pub(crate) const MOST_REQUESTS: usize = 1_000;
 
 /// What comes of one turn of a connection.
 #[derive(Drop)]
-enum Turn<Q> {
+pub(crate) enum Turn<Q> {
     /// A head got its reply, and the connection goes on.
     Goes(Note<Q>),
     /// A head got its reply, behind which the connection is over.
@@ -83,7 +83,7 @@ pub fn session_owned<S: Site, K: Keeper, O: Origin<S>, C: Clock, L: Link>(
     ended(notes, SessionStop::Limit)
 }
 
-fn ended<Q>(notes: Vec<Note<Q>>, stop: SessionStop) -> SessionEnd<Q>
+pub(crate) fn ended<Q>(notes: Vec<Note<Q>>, stop: SessionStop) -> SessionEnd<Q>
     ensures notes { result.notes ≡ notes.items }
     ensures stop { result.stop ≡ stop }
 {
@@ -126,7 +126,7 @@ fn serve_next<S: Site, K: Keeper, O: Origin<S>, C: Clock, L: Link>(
 }
 
 // The last reply of a connection closes it.
-fn manner_in(request: &Request, more: usize) -> Manner
+pub(crate) fn manner_in(request: &Request, more: usize) -> Manner
     ensures { result ≡ manner_of (more == 0) request.now }
 {
     let manner = Manner::of(request);
@@ -134,7 +134,7 @@ fn manner_in(request: &Request, more: usize) -> Manner
 }
 
 // A turn with a reply, whose head closes the connection or not.
-fn replied<Q>(note: Note<Q>, close: bool, more: usize) -> Turn<Q>
+pub(crate) fn replied<Q>(note: Note<Q>, close: bool, more: usize) -> Turn<Q>
     ensures { result ≡ turn_of note (when (close || not note.whole) (stop_after_of (is_client_fault_of note.cause) (more == 0))) }
 {
     let stop = stop_after(note.cause.is_client_fault(), more == 0);

@@ -2,7 +2,7 @@ use Rattle.std.proofs.Common.{◌≡◌, ◌+◌, ◌≤◌, length, vec_capacit
 use Rattle.acng_desk.specs.Keeps.{IsIdle}
 use Rattle.acng_serve.specs.Sessions.{by_desk, standing}
 use Rattle.acng_serve.proofs.Stills.{Stills}
-use Rattle.acng_serve.proofs.session.session_owned.Given as goal
+use Rattle.acng_serve.proofs.owned.session_owned.Given as goal
 
 abbrev pub invariant-loop-more : goal.invariant-loop-more
 invariant-loop-more g l = record {
