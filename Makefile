@@ -18,6 +18,7 @@ test:
 	bash tests/folder_syncs.sh
 	bash tests/debian_index.sh
 	bash tests/reach_table.sh
+	bash tests/expire_table.sh
 
 # The pictures of docs/ARCHITECTURE.md, drawn by Graphviz from the text beside them.
 pictures:
