@@ -3,3 +3,5 @@ pub mod Looked
 pub mod Entering
 pub mod Filed
 pub mod Running
+pub mod Stepping
+pub mod Lines

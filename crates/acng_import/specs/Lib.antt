@@ -4,3 +4,5 @@ pub mod Halts
 pub mod Imports
 pub mod Looks
 pub mod Puts
+pub mod Printed
+pub mod Steps

@@ -5,6 +5,7 @@ ghost use Rattle.acng_import.specs.Files.{file_at};
 ghost use Rattle.acng_import.specs.Halts.{MayHalt};
 ghost use Rattle.acng_import.specs.Imports.{enter, AreNamed, FileDid};
 ghost use Rattle.acng_import.specs.Looks.{shelf_of};
+ghost use Rattle.acng_import.specs.Steps.{OnlyEnters, named_in};
 ghost use Rattle.acng_import.specs.Puts.{ends, IfDid, IsArrival};
 
 use crate::ending::{FileEnd, Halt, halt_of};
@@ -30,6 +31,7 @@ fn let_go<S: Site, K: Keeper, T: Joint>(
     requires number { (K.Body.handle body).number ≡ id.0 }
     requires spare { IsSpare K.tells desk.old id.0 }
     ensures did { IfDid (λ d. d ≡ ends end desk.old.plain) result desk.new.plain }
+    ensures plain { desk.new.plain ≡ desk.old.plain }
 
     // A refusal, and whether calls may fail.
     ensures cause { IfErr result (MayHalt desk.old.faults.may_fail) }
@@ -42,6 +44,7 @@ fn let_go<S: Site, K: Keeper, T: Joint>(
 }
 
 // A file enters at those of its names that want it. A body has all of it.
+#[tactic(auto, using(crate::proofs::Stepping::none_entered))]
 fn enter<S: Site, K: Keeper, T: Joint>(
     alloc: Global,
     desk: &mut Desk<S, K, T>,
@@ -56,6 +59,7 @@ fn enter<S: Site, K: Keeper, T: Joint>(
     requires file { IsArrival K.tells arrival (K.Body.handle body) }
     ensures did { K.tells ≡ true → IfDid (λ d. (paths : List (List ℕ)) × AreNamed reach.now.indexes arrival.hash.0 arrival.size paths
         × (d ≡ enter arrival id.0 (shelf_of desk.old) paths)) result desk.new.plain }
+    ensures only { K.tells ≡ true → OnlyEnters (named_in reach.now.indexes) desk.old.plain desk.new.plain }
 
     // A refusal, and whether calls may fail.
     ensures cause { IfErr result (MayHalt desk.old.faults.may_fail) }
@@ -79,6 +83,7 @@ fn enter<S: Site, K: Keeper, T: Joint>(
 }
 
 /// Imports the found file at a place.
+#[tactic(auto, using(crate::proofs::Stepping::body_made, crate::proofs::Stepping::none_entered, crate::proofs::Stepping::entered_both))]
 pub fn import_file<S: Site, K: Keeper, T: Joint, F: Finder>(
     alloc: Global,
     desk: &mut Desk<S, K, T>,
@@ -90,6 +95,7 @@ pub fn import_file<S: Site, K: Keeper, T: Joint, F: Finder>(
     requires place { i < length (F.names finder.old) }
     ensures did { K.tells ≡ true → F.tells ≡ true → IfDid (FileDid reach.now.indexes now (shelf_of desk.old)
         (file_at (F.bodies finder.old) i) (F.faults finder.old) (F.faults finder.new)) result desk.new.plain }
+    ensures only { K.tells ≡ true → OnlyEnters (named_in reach.now.indexes) desk.old.plain desk.new.plain }
     ensures same_names { F.names finder.new ≡ F.names finder.old }
     ensures same_bodies { F.bodies finder.new ≡ F.bodies finder.old }
 

@@ -3,6 +3,7 @@ ghost use Rattle.std.specs.Prelude.{◌≡◌, true, length};
 ghost use Rattle.acng_reach.specs.Caches.{indexes};
 ghost use Rattle.acng_reach.specs.Desks.{cache_of};
 ghost use Rattle.acng_import.specs.Imports.{ImportsAs, MayStop};
+ghost use Rattle.acng_import.specs.Steps.{OnlyEnters, named_in};
 
 use crate::ending::{FileEnds, Halt, Imported};
 use crate::file::import_file;
@@ -24,6 +25,8 @@ pub fn import<S: Site, K: Keeper, T: Joint, F: Finder>(
 ) -> Imported<SlipOf<K>>
     ensures imported { K.tells ≡ true → F.tells ≡ true → ImportsAs S.Site K.tells (indexes (cache_of K.tells desk.old)) now
         (F.bodies finder.old) (length (F.names finder.old)) desk.old (F.faults finder.old) desk.new (F.faults finder.new) result }
+    ensures only { K.tells ≡ true →
+        OnlyEnters (named_in (indexes (cache_of K.tells desk.old))) desk.old.plain desk.new.plain }
     ensures cause { MayStop desk.old.faults.may_fail result }
 {
     let mut ends = FileEnds::new(alloc);

@@ -9,12 +9,16 @@ mod ending;
 mod file;
 mod fill;
 mod finder;
+mod folder;
 mod imports;
 mod memory;
+mod print;
 mod put;
 mod wanted;
 
 pub use ending::{FileEnd, FileEnds, Imported};
 pub use finder::Finder;
+pub use folder::FolderFinder;
 pub use imports::import;
 pub use memory::MemoryFinder;
+pub use print::print_imported;

@@ -9,6 +9,7 @@ ghost use Rattle.acng_desk.specs.Calls.{IsSpare};
 ghost use Rattle.acng_desk.specs.Commands.{made, is_out_of_ids};
 ghost use Rattle.acng_import.specs.Halts.{MayHalt};
 ghost use Rattle.acng_import.specs.Looks.{HasRead};
+ghost use Rattle.acng_import.specs.Steps.{May, OnlyEnters, MayHave};
 ghost use Rattle.acng_import.specs.Puts.{put_all, IfDid, PutAs, NextAs, WasWorn, IfWorn, HasArrived, IsArrival};
 
 use crate::copy::copy;
@@ -28,6 +29,7 @@ pub struct Arrival {
 }
 
 // Enters the file at a path, with a body that has all of it. Says whether there was room.
+#[tactic(auto, using(crate::proofs::Stepping::file_put, crate::proofs::Stepping::file_fell))]
 fn put_at<S: Site, K: Keeper, T: Joint>(
     alloc: Global,
     desk: &mut Desk<S, K, T>,
@@ -41,6 +43,7 @@ fn put_at<S: Site, K: Keeper, T: Joint>(
     requires small { arrival.size ≤ 2 ^ 41 }
     requires file { IsArrival K.tells arrival (K.Body.handle body) }
     ensures put { IfOk result (λ put. PutAs put arrival path.now id.0 desk.old.plain desk.new.plain) }
+    ensures only { (may : May) → may path.now arrival.hash.0 arrival.size ≡ true → OnlyEnters may desk.old.plain desk.new.plain }
 
     // A refusal, and whether calls may fail.
     ensures cause { IfErr result (MaySlip desk.old.faults.may_fail) }
@@ -69,6 +72,7 @@ fn copy_held<S: Site, K: Keeper, T: Joint>(
     ensures copied { OnOk result (IsArrival K.tells arrival (K.Body.handle body.new)) }
     ensures number { (K.Body.handle body.new).number ≡ (K.Body.handle body.old).number }
     ensures read { OnOk result (HasRead K.tells desk.old desk.new) }
+    ensures plain { desk.new.plain ≡ desk.old.plain }
 
     // A refusal, and whether calls may fail.
     ensures cause { IfErr result (MaySlip desk.old.faults.may_fail) }
@@ -87,6 +91,7 @@ fn copy_held<S: Site, K: Keeper, T: Joint>(
 }
 
 // A new body with all that a path holds, where the file has entered it.
+#[tactic(auto, using(crate::proofs::Stepping::body_made, crate::proofs::Stepping::none_entered))]
 fn copy_of<S: Site, K: Keeper, T: Joint>(
     alloc: Global,
     desk: &mut Desk<S, K, T>,
@@ -100,6 +105,7 @@ fn copy_of<S: Site, K: Keeper, T: Joint>(
     ensures spare { IfOk result (λ r. IsSpare K.tells desk.new r.0.0) }
     ensures ids { OnOk result (is_out_of_ids desk.old.plain ≡ false) }
     ensures plain { OnOk result (desk.new.plain ≡ made desk.old.plain) }
+    ensures only { (may : May) → OnlyEnters may desk.old.plain desk.new.plain }
 
     // A refusal, and whether calls may fail.
     ensures worn { IfErr result (λ e. IfWorn e (WasWorn desk.old.plain desk.new.plain)) }
@@ -122,6 +128,7 @@ fn copy_of<S: Site, K: Keeper, T: Joint>(
 }
 
 // Enters the file at a further path, with a copy of what the one before it holds. Says whether there was room.
+#[tactic(auto, using(crate::proofs::Stepping::entered_both))]
 fn put_next<S: Site, K: Keeper, T: Joint>(
     alloc: Global,
     desk: &mut Desk<S, K, T>,
@@ -132,6 +139,7 @@ fn put_next<S: Site, K: Keeper, T: Joint>(
     requires held { HasArrived arrival desk.old.plain.rows before.now }
     requires small { arrival.size ≤ 2 ^ 41 }
     ensures put { IfOk result (λ put. NextAs put arrival path.now desk.old.plain desk.new.plain) }
+    ensures only { (may : May) → may path.now arrival.hash.0 arrival.size ≡ true → OnlyEnters may desk.old.plain desk.new.plain }
 
     // A refusal, and whether calls may fail.
     ensures worn { IfErr result (λ e. IfWorn e (WasWorn desk.old.plain desk.new.plain)) }
@@ -159,6 +167,7 @@ fn texts_of(alloc: Global, paths: &[CachePath]) -> Result<Texts, NoMemory>
 }
 
 /// Enters a file at the paths that want it, of which there is one at least. A body has all of it.
+#[tactic(auto, using(crate::proofs::Stepping::entered_both, crate::proofs::Stepping::among_place))]
 pub fn put_all<S: Site, K: Keeper, T: Joint>(
     alloc: Global,
     desk: &mut Desk<S, K, T>,
@@ -173,6 +182,7 @@ pub fn put_all<S: Site, K: Keeper, T: Joint>(
     requires small { arrival.size ≤ 2 ^ 41 }
     requires file { IsArrival K.tells arrival (K.Body.handle body) }
     ensures did { IfDid (λ d. d ≡ put_all arrival id.0 desk.old.plain wanted.now) result desk.new.plain }
+    ensures only { (may : May) → MayHave may arrival.hash.0 arrival.size wanted.now → OnlyEnters may desk.old.plain desk.new.plain }
 
     // A refusal, and whether calls may fail.
     ensures cause { IfErr result (MayHalt desk.old.faults.may_fail) }

@@ -10,6 +10,7 @@ use Rattle.acng_import.specs.declared.put.Arrival.{Arrival}
 use Rattle.acng_import.proofs.Entering.{not_out}
 use Rattle.acng_import.proofs.Filed.{worn_file, same_new, long_file, whole_file}
 use Rattle.acng_import.proofs.Running.{if_did}
+use Rattle.acng_import.proofs.Stepping.{body_made, entered_both}
 use Rattle.acng_import.proofs.file.import_file.Goals as goal
 
 pub returns-in-Err-Worn-clause-did : goal.returns-in-Err-Worn-clause-did
@@ -58,3 +59,6 @@ returns-in-TooLong-clause-did g c = λ kt ft.
     if_did _ (FileDid xs c.args.now (shelf_of h) file old new) c.let_go.result c.let_go.new.desk.plain
     (λ d is. long_file xs c.args.now h file old new d h1.plain ids f.1 (f.0 ft) m.plain is)
     c.let_go.ensures.did
+
+pub returns-in-Whole-clause-only : goal.returns-in-Whole-clause-only
+returns-in-Whole-clause-only g c = λ t. entered_both (body_made c.in-Ok.ensures.plain) (c.enter.ensures.only t)

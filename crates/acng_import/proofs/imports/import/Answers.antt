@@ -9,6 +9,7 @@ use Rattle.acng_import.specs.Puts.{IfDid}
 use Rattle.acng_import.specs.declared.ending.FileEnd.{FileEnd}
 use Rattle.acng_import.proofs.Filed.{same_file}
 use Rattle.acng_import.proofs.Running.{ran_none, ran_more}
+use Rattle.acng_import.proofs.Stepping.{none_entered, entered_both, entered_named}
 use Rattle.acng_import.proofs.imports.import.Goals as goal
 
 pub returns-in-Err-Slip-clause-imported : goal.returns-in-Err-Slip-clause-imported
@@ -35,6 +36,7 @@ loop-i-init g c =
           subst (λ (es : List FileEnd). RanFrom g.S.Site tells xs c.args.now files c.args.desk.now faults 0
           (record { ends = es; house = h1; faults = faults })) (sym c.new-ends.ensures)
           (ran_none g.S.Site tells xs c.args.now files c.args.desk.now h1 faults kt c.in-Ok.ensures.rests);
+      only = λ t. none_entered (ap (λ r. r.plain) c.in-Ok.ensures.rests);
       names = refl;
       bodies = refl;
       may = ap (λ r. r.may_slip) c.in-Ok.ensures.rests;
@@ -92,6 +94,7 @@ loop-i-preserved g c =
                 (c.in-Ok.ensures.reach kt).indexes_are i.bodies (e.ensures.did kt ft);
           })
           c.keeps.ensures;
+      only = λ t. entered_both (i.only t) (entered_named (c.in-Ok.ensures.reach t).indexes_are (e.ensures.only t));
       names = e.ensures.same_names ∙ i.names;
       bodies = e.ensures.same_bodies ∙ i.bodies;
       may = e.ensures.may ∙ i.may;
@@ -105,3 +108,19 @@ returns-clause-imported g c = λ kt ft.
     subst (λ n. RanFrom g.S.Site g.K.Keeper.tells (indexes (cache_of g.K.Keeper.tells c.args.desk.now)) c.args.now
     (g.F.Finder.bodies c.args.finder.now) c.args.desk.now (faults c.args.finder.now) n
     (record { ends = s.ends; house = s.desk; faults = faults s.finder })) all (s.invariant.ran kt ft)
+
+pub returns-in-Err-Worn-clause-only : goal.returns-in-Err-Worn-clause-only
+returns-in-Err-Worn-clause-only g c = λ t.
+    entered_both (c.loop-i.invariant.only t) (entered_named (c.in-Ok.ensures.reach t).indexes_are (c.import_file.ensures.only t))
+
+pub returns-in-Err-Slip-import_file-clause-only : goal.returns-in-Err-Slip-import_file-clause-only
+returns-in-Err-Slip-import_file-clause-only g c = λ t.
+    entered_both (c.loop-i.invariant.only t) (entered_named (c.in-Ok.ensures.reach t).indexes_are (c.import_file.ensures.only t))
+
+pub returns-in-Err-NoMemory-import_file-clause-only : goal.returns-in-Err-NoMemory-import_file-clause-only
+returns-in-Err-NoMemory-import_file-clause-only g c = λ t.
+    entered_both (c.loop-i.invariant.only t) (entered_named (c.in-Ok.ensures.reach t).indexes_are (c.import_file.ensures.only t))
+
+pub returns-in_default-clause-only : goal.returns-in_default-clause-only
+returns-in_default-clause-only g c = λ t.
+    entered_both (c.loop-i.invariant.only t) (entered_named (c.in-Ok.ensures.reach t).indexes_are (c.import_file.ensures.only t))

@@ -2,6 +2,7 @@ use Rattle.std.proofs.Common.{◌≡◌, ◌+◌, ◌-◌, ◌<◌, ◌∙◌, t
 use Rattle.std.specs.List.{slice_get}
 use Rattle.acng_import.specs.Puts.{PutAs, NextAs, HasArrived}
 use Rattle.acng_import.proofs.Entering.{begins, goes_on, arrives, got_at, is_got}
+use Rattle.acng_import.proofs.Stepping.{among_place, entered_both}
 use Rattle.acng_import.proofs.put.put_all.Goals as goal
 
 pub loop-i-init : goal.loop-i-init
@@ -17,6 +18,7 @@ loop-i-init g c =
       did = begins a ws x c.requires.some c.index-wanted-0.is c.args.id.0 p q put;
       arrived = λ path is.
           subst (HasArrived a q.rows) (is_got ws 0 x path c.requires.some c.index-wanted-0.is is) (arrives a x c.args.id.0 p q put);
+      only = λ may have. c.in-Ok-true.ensures.only may (have.each x (among_place ws 0 x c.requires.some c.index-wanted-0.is));
       may = c.in-Ok-true.ensures.may;
     }
 
@@ -46,5 +48,6 @@ loop-i-preserved g c =
       arrived = λ path at.
           let same : i + 1 - 1 ≡ i = omega arith in
           subst (HasArrived a q.rows) (is_got ws i x path lt is (ap (slice_get ws) (sym same) ∙ at)) (arrives a x p.next_id _ q put.put_as);
+      only = λ may have. entered_both (s.invariant.only may have) (now.ensures.only may (have.each x (among_place ws i x lt is)));
       may = now.ensures.may ∙ s.invariant.may;
     }
