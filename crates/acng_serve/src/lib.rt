@@ -16,6 +16,7 @@ mod note;
 mod notes;
 mod owned;
 mod refuse;
+mod server;
 mod way;
 
 pub use answer::answer_one;
@@ -25,3 +26,4 @@ pub use note::{Cause, Note};
 pub use notes::{Notes, SessionEnd, SessionStop};
 pub use owned::session_owned;
 pub use refuse::answer_unread;
+pub use server::{ServeEnd, serve};
