@@ -3,6 +3,7 @@ pub mod Enough
 pub mod FileNotes
 pub mod Ran
 pub mod Reading
+pub mod Reports
 mod Rows
 pub mod Singles
 pub mod Starts

@@ -1,13 +1,14 @@
 //! The program's commands, as calls over any link, source, sink, origin, keeper, clock and site.
 //!
-//! `once` opens a desk over a keeper, reads one request from a link, answers it and writes one reply. `check-conf` reads a
-//! configuration and says what is wrong with it. The words of the command line are read by `clap`.
+//! `once` opens a desk over a keeper, reads one request from a link, answers it and writes one reply. `report` prints what a
+//! desk holds, and `check-conf` what is wrong with a configuration. The words of the command line are read by `clap`.
 #![tactic(auto)]
 
 mod maint;
 mod once;
 mod opening;
 mod output;
+mod report;
 mod single;
 mod source;
 pub mod status;
@@ -16,5 +17,6 @@ mod words;
 pub use maint::run_maint;
 pub use once::{Once, OnceStop, run_once};
 pub use opening::{Maint, Opened, open_desk};
+pub use report::run_report;
 pub use single::{Single, run_single};
 pub use words::{Command, Words, WordsFault, read_words};

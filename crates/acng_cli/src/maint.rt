@@ -62,7 +62,7 @@ fn output_of<I: Source>(
 }
 
 // Prints it. The status is its own; a failed output alone has a status of its own where all else was done.
-fn print<W: Sink>(output: Output, out: &mut W) -> u8
+pub(crate) fn print<W: Sink>(output: Output, out: &mut W) -> u8
     ensures { Prints W.Sink output result out.old out.new }
 {
     match write_all(out, output.text.as_bytes()) {

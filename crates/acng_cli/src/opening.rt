@@ -99,7 +99,7 @@ pub(crate) fn open_by<S: Site, K: Keeper, T: Joint, I: Source>(
 }
 
 // Starts the desk over the keeper.
-fn start_desk<S: Site, K: Keeper, T: Joint>(
+pub(crate) fn start_desk<S: Site, K: Keeper, T: Joint>(
     alloc: Global,
     words: Words,
     conf: Conf,
@@ -131,7 +131,7 @@ fn stopped<K: Drop, P: Drop>(fault: StartFault<K, P>) -> Maint<K, P>
     }
 }
 
-fn ended<K: Drop, P: Drop>(status: u8, keeper: K, slip: Option<P>) -> Maint<K, P>
+pub(crate) fn ended<K: Drop, P: Drop>(status: u8, keeper: K, slip: Option<P>) -> Maint<K, P>
     ensures { result ≡ record { status = status; keeper = keeper; slip = slip } }
 {
     Maint {

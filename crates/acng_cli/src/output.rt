@@ -105,7 +105,7 @@ fn accepted(alloc: Global, conf: &Conf) -> Result<Output, NoMemory>
     Ok(Output { status: DONE, text })
 }
 
-fn refused(alloc: Global, fault: ConfFault) -> Result<Output, NoMemory>
+pub(crate) fn refused(alloc: Global, fault: ConfFault) -> Result<Output, NoMemory>
     ensures output { IfOk result (λ output. output ≡ of_conf (Err fault)) }
     ensures status { IfOk result (λ output. output.status ≡ 3) }
 {
