@@ -1,23 +1,22 @@
 //! The program `acng`.
 //!
 //! `acng once` reads one request from standard input, answers it from the cache folder or by asking the origins over TCP,
-//! and writes the reply to standard output. `acng check-conf` reads a configuration and prints what is wrong with it. This
-//! file only hands the words, the streams, the files and the sockets over: what is done is `run_single`'s and
-//! `run_maint`'s.
+//! and writes the reply to standard output. `acng report` prints what the cache folder holds, and `acng check-conf` what is
+//! wrong with a configuration. This file only hands the words, the streams, the files and the sockets over: what is done is
+//! `run_single`'s, `run_report`'s and `run_maint`'s.
 #![tactic(auto)]
 
 mod cache;
 mod files;
 
 use acng_base::{FileFault, HostClock, NoMemory, Source, StdLink, StdSink, StdSource, Text};
-use acng_cli::status::{DONE, FAILED, KEEPER, NO_MEMORY};
-use acng_cli::{Command, Words, WordsFault, read_words, run_maint, run_single};
+use acng_cli::status::{CONFIGURATION, DONE, FAILED, KEEPER, NO_MEMORY};
+use acng_cli::{Command, Words, WordsFault, read_words, run_maint, run_report, run_single};
 use acng_conf::ListFile;
-use acng_keeper::OpenFault;
+use acng_keeper::{FolderKeeper, OpenFault};
 use acng_site::NetOrigin;
 use cache::open_cache;
 use files::{lists_beside, open_conf, path_of};
-use std::alloc::Global;
 use std::process::ExitCode;
 use std::{env, io};
 
@@ -36,7 +35,7 @@ fn run(rt: &HostRuntime, words: &[Text]) -> u8 {
         Err(_) => return over_nothing(rt, words),
     };
     let status = match read.command {
-        Command::Once => answer(rt, words, &read),
+        Command::Once | Command::Report => over_cache(rt, words, &read),
         Command::CheckConf => check_conf(rt, words, &read.conf),
         _ => Ok(over_nothing(rt, words)),
     };
@@ -62,42 +61,56 @@ fn words_of(rt: &HostRuntime) -> Result<Vec<Text>, NoMemory> {
     Ok(words)
 }
 
-// ---- once
+// ---- once, report
 
-// One request of the standard streams.
-fn answer(rt: &HostRuntime, words: &[Text], read: &Words) -> Result<u8, FileFault> {
+// A command over the cache folder, by the configuration that the words name.
+fn over_cache(rt: &HostRuntime, words: &[Text], read: &Words) -> Result<u8, FileFault> {
     let path = path_of(&read.conf);
     let Some(file) = open_conf(rt, path, !words.iter().any(is_conf_option))? else {
-        return answer_by(rt, words, &read.cache, StdSource::new(io::empty()), &[]);
+        return over_cache_by(rt, words, read, StdSource::new(io::empty()), &[]);
     };
     let lists = lists_beside(rt, rt.alloc(), path)?;
-    answer_by(rt, words, &read.cache, StdSource::new(file), &lists)
+    over_cache_by(rt, words, read, StdSource::new(file), &lists)
 }
 
 // The same by a configuration. A folder that can't be opened is said so only where nothing is wrong with that.
-fn answer_by<I: Source + Drop>(
+fn over_cache_by<I: Source + Drop>(
     rt: &HostRuntime,
     words: &[Text],
-    folder: &Text,
+    read: &Words,
     conf: I,
     lists: &[ListFile],
 ) -> Result<u8, FileFault> {
-    let alloc = rt.alloc();
     let mut conf = conf;
-    let keeper = match open_cache(rt, path_of(folder)) {
+    let keeper = match open_cache(rt, path_of(&read.cache)) {
         Ok(keeper) => keeper,
         Err(OpenFault::NoMemory) => return Err(FileFault::NoMemory),
-        Err(_) => return without_cache(alloc, &mut conf, lists),
+        Err(_) => return without_cache(rt, read, &mut conf, lists),
     };
+    if read.command == Command::Report {
+        report(rt, words, keeper, &mut conf, lists)
+    } else {
+        answer(rt, words, keeper, &mut conf, lists)
+    }
+}
+
+// One request of the standard streams.
+fn answer<I: Source>(
+    rt: &HostRuntime,
+    words: &[Text],
+    keeper: FolderKeeper<HostRuntime>,
+    conf: &mut I,
+    lists: &[ListFile],
+) -> Result<u8, FileFault> {
     let (origin, right) = NetOrigin::start(rt.clone()?);
     let mut clock = HostClock::new(rt.clone()?);
     let mut client = StdLink::new(rt.stdin(), rt.stdout());
     let single = run_single(
-        alloc,
+        rt.alloc(),
         words,
         keeper,
         right,
-        &mut conf,
+        conf,
         lists,
         &origin,
         &mut clock,
@@ -106,16 +119,33 @@ fn answer_by<I: Source + Drop>(
     Ok(single.status)
 }
 
-// The status where the cache folder can't be opened: that of a configuration that is refused goes first.
-fn without_cache<I: Source>(
-    alloc: Global,
+// What is held, printed to standard output. Nobody is asked for anything.
+fn report<I: Source>(
+    rt: &HostRuntime,
+    words: &[Text],
+    keeper: FolderKeeper<HostRuntime>,
     conf: &mut I,
     lists: &[ListFile],
 ) -> Result<u8, FileFault> {
-    let words = [Text::copy(alloc, b"check-conf")?];
+    let (_origin, right) = NetOrigin::start(rt.clone()?);
+    let mut out = StdSink::new(rt.stdout());
+    let ended = run_report(rt.alloc(), words, keeper, right, conf, lists, &mut out);
+    Ok(ended.status)
+}
+
+// The status where the cache folder can't be opened: that of a configuration that is refused goes first, and a report
+// prints the refusal.
+fn without_cache<I: Source>(
+    rt: &HostRuntime,
+    read: &Words,
+    conf: &mut I,
+    lists: &[ListFile],
+) -> Result<u8, FileFault> {
+    let words = [Text::copy(rt.alloc(), b"check-conf")?];
     let mut nowhere = StdSink::new(io::sink());
-    match run_maint(alloc, &words, conf, lists, &mut nowhere) {
+    match run_maint(rt.alloc(), &words, conf, lists, &mut nowhere) {
         DONE => Ok(KEEPER),
+        CONFIGURATION if read.command == Command::Report => check_conf(rt, &words, &read.conf),
         status => Ok(status),
     }
 }
