@@ -1,9 +1,10 @@
 //! The program `acng`.
 //!
 //! `acng once` reads one request from standard input, answers it from the cache folder or by asking the origins over TCP,
-//! and writes the reply to standard output. `acng report` prints what the cache folder holds, and `acng check-conf` what is
-//! wrong with a configuration. This file only hands the words, the streams, the files and the sockets over: what is done is
-//! `run_single`'s, `run_report`'s and `run_maint`'s.
+//! and writes the reply to standard output. `acng serve` does so for every connection to a port, many at a time. `acng report`
+//! prints what the cache folder holds, and `acng check-conf` what is wrong with a configuration. This file only hands the
+//! words, the streams, the files and the sockets over: what is done is `run_single`'s, `serve`'s, `run_report`'s and
+//! `run_maint`'s.
 #![tactic(auto)]
 
 mod cache;
@@ -11,31 +12,42 @@ mod files;
 
 use acng_base::{FileFault, HostClock, NoMemory, Source, StdLink, StdSink, StdSource, Text};
 use acng_cli::status::{CONFIGURATION, DONE, FAILED, KEEPER, NO_MEMORY};
-use acng_cli::{Command, Words, WordsFault, read_words, run_maint, run_report, run_single};
+use acng_cli::{
+    Command, Opened, Words, WordsFault, open_desk, read_words, run_maint, run_report, run_single,
+};
 use acng_conf::ListFile;
 use acng_keeper::{FolderKeeper, OpenFault};
+use acng_serve::{House, ServeEnd, serve};
 use acng_site::NetOrigin;
 use cache::open_cache;
 use files::{lists_beside, open_conf, path_of};
+use std::net::{Net, TcpListener, TcpStream};
 use std::process::ExitCode;
+use std::sync::Wait;
+use std::thread::Threads;
+use std::time::Clock;
 use std::{env, io};
 
 fn main(rt: HostRuntime) -> ExitCode {
     let Ok(words) = words_of(&rt) else {
         return ExitCode::from(NO_MEMORY);
     };
-    ExitCode::from(run(&rt, &words))
+    ExitCode::from(run(&rt, &rt, &words))
 }
 
 // Runs the command that the words name. What is wrong with other words is printed.
-fn run(rt: &HostRuntime, words: &[Text]) -> u8 {
+fn run<R: Net<Stream = TcpStream, Listener = TcpListener> + Threads + Wait + Clock + Sync>(
+    rt: &HostRuntime,
+    server: &R,
+    words: &[Text],
+) -> u8 {
     let read = match read_words(rt.alloc(), words) {
         Ok(read) => read,
         Err(WordsFault::NoMemory) => return NO_MEMORY,
         Err(_) => return over_nothing(rt, words),
     };
     let status = match read.command {
-        Command::Once | Command::Report => over_cache(rt, words, &read),
+        Command::Once | Command::Report | Command::Serve => over_cache(rt, server, words, &read),
         Command::CheckConf => check_conf(rt, words, &read.conf),
         _ => Ok(over_nothing(rt, words)),
     };
@@ -61,36 +73,46 @@ fn words_of(rt: &HostRuntime) -> Result<Vec<Text>, NoMemory> {
     Ok(words)
 }
 
-// ---- once, report
+// ---- once, serve, report
 
 // A command over the cache folder, by the configuration that the words name.
-fn over_cache(rt: &HostRuntime, words: &[Text], read: &Words) -> Result<u8, FileFault> {
+fn over_cache<R: Net<Stream = TcpStream, Listener = TcpListener> + Threads + Wait + Clock + Sync>(
+    rt: &HostRuntime,
+    server: &R,
+    words: &[Text],
+    read: &Words,
+) -> Result<u8, FileFault> {
     let path = path_of(&read.conf);
     let Some(file) = open_conf(rt, path, !words.iter().any(is_conf_option))? else {
-        return over_cache_by(rt, words, read, StdSource::new(io::empty()), &[]);
+        return over_cache_by(rt, server, words, read, StdSource::new(io::empty()), &[]);
     };
     let lists = lists_beside(rt, rt.alloc(), path)?;
-    over_cache_by(rt, words, read, StdSource::new(file), &lists)
+    over_cache_by(rt, server, words, read, StdSource::new(file), &lists)
 }
 
 // The same by a configuration. A folder that can't be opened is said so only where nothing is wrong with that.
-fn over_cache_by<I: Source + Drop>(
+fn over_cache_by<
+    R: Net<Stream = TcpStream, Listener = TcpListener> + Threads + Wait + Clock + Sync,
+    I: Source + Drop,
+>(
     rt: &HostRuntime,
+    server: &R,
     words: &[Text],
     read: &Words,
     conf: I,
     lists: &[ListFile],
 ) -> Result<u8, FileFault> {
     let mut conf = conf;
-    let keeper = match open_cache(rt, path_of(&read.cache)) {
+    let waits = read.command != Command::Serve;
+    let keeper = match open_cache(rt, path_of(&read.cache), waits) {
         Ok(keeper) => keeper,
         Err(OpenFault::NoMemory) => return Err(FileFault::NoMemory),
         Err(_) => return without_cache(rt, read, &mut conf, lists),
     };
-    if read.command == Command::Report {
-        report(rt, words, keeper, &mut conf, lists)
-    } else {
-        answer(rt, words, keeper, &mut conf, lists)
+    match read.command {
+        Command::Report => report(rt, words, keeper, &mut conf, lists),
+        Command::Serve => serve_clients(rt, server, words, keeper, &mut conf, lists),
+        _ => answer(rt, words, keeper, &mut conf, lists),
     }
 }
 
@@ -117,6 +139,35 @@ fn answer<I: Source>(
         &mut client,
     );
     Ok(single.status)
+}
+
+// Every connection to the configured address, until the process is ended.
+fn serve_clients<
+    R: Net<Stream = TcpStream, Listener = TcpListener> + Threads + Wait + Clock + Sync,
+    I: Source,
+>(
+    rt: &HostRuntime,
+    server: &R,
+    words: &[Text],
+    keeper: FolderKeeper<HostRuntime>,
+    conf: &mut I,
+    lists: &[ListFile],
+) -> Result<u8, FileFault> {
+    let (origin, right) = NetOrigin::start(rt.clone()?);
+    match open_desk(rt.alloc(), words, keeper, right, conf, lists) {
+        Opened::Ready {
+            words: _,
+            conf,
+            desk,
+        } => {
+            let house = House::new(conf, desk);
+            match serve(server, rt.alloc(), &house, &origin) {
+                ServeEnd::NotBound => Ok(FAILED),
+                ServeEnd::NoMemory => Ok(NO_MEMORY),
+            }
+        }
+        Opened::Ended(ended) => Ok(ended.status),
+    }
 }
 
 // What is held, printed to standard output. Nobody is asked for anything.

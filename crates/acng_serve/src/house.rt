@@ -11,6 +11,7 @@ use std::sync::Mutex;
 
 /// A configuration, and a desk that many sessions use, each for one call at a time. Contracts see the configuration: a lock
 /// tells nothing of what is behind it.
+#[derive(Drop)]
 pub struct House<S: Site, K: Keeper, P: OriginSlip> {
     conf: Conf,
     desk: Mutex<Desk<S, K, Joined<S, K::Body, P>>>,
