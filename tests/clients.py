@@ -1,0 +1,160 @@
+"""Clients of a proxy on the loopback, for the checks of `acng serve`.
+
+    clients.py PORT HOST FOLDER CHECK
+
+PORT is the proxy's, HOST the mirror's host and port, FOLDER what the mirror has below `/tree/`. CHECK is one of the
+functions below. Each prints a line for each thing that isn't as it should be, and nothing where all is.
+"""
+import hashlib
+import os
+import random
+import socket
+import sys
+import threading
+import time
+
+
+def connect(port, seconds=60):
+    stream = socket.create_connection(("127.0.0.1", port))
+    stream.settimeout(seconds)
+    return stream
+
+
+class Client:
+    """One connection, on which requests go one after another."""
+
+    def __init__(self, port):
+        self.stream, self.held = connect(port), b""
+
+    def send(self, method, target, fields=""):
+        text = "%s %s HTTP/1.1\r\nHost: proxy\r\n%s\r\n" % (method, target, fields)
+        self.stream.sendall(text.encode())
+
+    def more(self):
+        piece = self.stream.recv(65536)
+        self.held += piece
+        return bool(piece)
+
+    def reply(self, bare=False):
+        """The status, the head's fields and the body."""
+        while b"\r\n\r\n" not in self.held:
+            if not self.more():
+                return 0, {}, b""
+        head, _, self.held = self.held.partition(b"\r\n\r\n")
+        lines = head.decode("latin-1").split("\r\n")
+        fields = dict(line.lower().split(": ", 1) for line in lines[1:])
+        length = 0 if bare else int(fields.get("content-length", "0"))
+        while len(self.held) < length and self.more():
+            pass
+        body, self.held = self.held[:length], self.held[length:]
+        return int(lines[0].split()[1]), fields, body
+
+    def get(self, target, fields=""):
+        self.send("GET", target, fields)
+        return self.reply()
+
+
+def files(folder):
+    return sorted(os.listdir(folder))
+
+
+def bytes_of(folder, name):
+    with open(os.path.join(folder, name), "rb") as file:
+        return file.read()
+
+
+def run(jobs):
+    threads = [threading.Thread(target=job) for job in jobs]
+    for it in threads:
+        it.start()
+    for it in threads:
+        it.join()
+
+
+# 64 clients ask for all files, each in an order of its own, on one connection each.
+def crowd(port, host, folder):
+    sums = {name: hashlib.sha256(bytes_of(folder, name)).digest() for name in files(folder)}
+
+    def one(number):
+        names = files(folder)
+        random.Random(number).shuffle(names)
+        client = Client(port)
+        for name in names:
+            status, _, body = client.get("http://%s/tree/%s" % (host, name))
+            if status != 200 or hashlib.sha256(body).digest() != sums[name]:
+                print("client %d: %s: status %d, %d bytes" % (number, name, status, len(body)))
+
+    run([lambda number=number: one(number) for number in range(64)])
+
+
+# Requests of one connection, of which some are sent before the replies to others were read.
+def line(port, host, folder):
+    name = files(folder)[0]
+    whole = bytes_of(folder, name)
+    target = "/%s/tree/%s" % (host, name)
+    client = Client(port)
+    client.send("GET", target, "Range: bytes=5-9\r\n")
+    client.send("HEAD", target)
+    client.send("GET", "/%s/gone/x.deb" % host)
+    client.send("GET", target)
+    seen = [client.reply(), client.reply(bare=True), client.reply(), client.reply()]
+    wanted = [(206, whole[5:10]), (200, b""), (404, b"404 Gone\n"), (200, whole)]
+    for number, ((status, fields, body), (code, text)) in enumerate(zip(seen, wanted)):
+        if status != code or body != text:
+            print("reply %d: status %d, %d bytes" % (number, status, len(body)))
+    if seen[1][1].get("content-length") != str(len(whole)):
+        print("the head's length is another")
+
+
+# Others are served while 50 connections say nothing, one says a byte a second, one takes nothing, and a mirror stalls.
+def stalls(port, host, folder):
+    silent = [connect(port) for _ in range(50)]
+    slow = connect(port)
+    slow.sendall(b"G")
+    lazy = connect(port)
+    lazy.setsockopt(socket.SOL_SOCKET, socket.SO_RCVBUF, 4096)
+    lazy.sendall(b"GET /%s/tree/%s HTTP/1.1\r\n\r\n" % (host.encode(), files(folder)[0].encode()))
+    waits = Client(port)
+    waits.send("GET", "/%s/stalled/x.deb" % host)
+    time.sleep(0.5)
+    slow.sendall(b"E")
+    begun = time.monotonic()
+    for name in files(folder):
+        status, _, body = Client(port).get("/%s/tree/%s" % (host, name))
+        if status != 200 or body != bytes_of(folder, name):
+            print("%s: status %d, %d bytes" % (name, status, len(body)))
+    if time.monotonic() - begun > 20:
+        print("the others took %d seconds" % (time.monotonic() - begun))
+    for stream in [*silent, slow, lazy, waits.stream]:
+        stream.close()
+
+
+# 30 clients ask for a file each that comes slowly; what they get is cut off by a kill.
+def loads(port, host, folder):
+    def one(number):
+        try:
+            Client(port).get("/%s/named/%d_1_all.deb" % (host, number))
+        except OSError:
+            pass
+
+    run([lambda number=number: one(number) for number in range(30)])
+
+
+# The same files, asked for once more: each is right.
+def after(port, host, folder):
+    def one(number):
+        target = "/named/%d_1_all.deb" % number
+        direct = socket.create_connection(("127.0.0.1", int(host.split(":")[1])))
+        direct.sendall(("GET %s HTTP/1.1\r\n\r\n" % target).encode())
+        whole = b""
+        while piece := direct.recv(65536):
+            whole += piece
+        status, _, body = Client(port).get("/%s%s" % (host, target))
+        if status != 200 or body != whole.partition(b"\r\n\r\n")[2]:
+            print("%s: status %d, %d bytes" % (target, status, len(body)))
+
+    run([lambda number=number: one(number) for number in range(30)])
+
+
+CHECKS = {"crowd": crowd, "line": line, "stalls": stalls, "loads": loads, "after": after}
+CHECKS[sys.argv[4]](int(sys.argv[1]), sys.argv[2], sys.argv[3])

@@ -1,0 +1,75 @@
+#!/usr/bin/env bash
+# Runs the built program as a server on the loopback: many clients at once, of which each gets every byte while the mirror is
+# asked once a file; clients and a mirror that stall; a kill in the middle of downloads; another program at the folder, and at
+# the address.
+set -u
+cd "$(dirname "$0")/.." || exit 1
+check=serve
+. tests/common.sh
+need python3
+build
+head -c 300000 /dev/urandom > "$work/body"
+mkdir "$work/tree"
+for number in $(seq 10 29); do
+    head -c $((number * 9000)) /dev/urandom > "$work/tree/p${number}_1_all.deb"
+done
+start_mirror "$work/tree"
+port=$(python3 -c 'import socket; s = socket.socket(); s.bind(("127.0.0.1", 0)); print(s.getsockname()[1])')
+printf 'BindAddress: 127.0.0.1\nPort: %s\n' "$port" > "$work/acng.conf"
+
+# start_server: the program over the folder, once it takes connections
+start_server() {
+    "$program" serve --conf "$work/acng.conf" --cache "$work/cache" > "$work/said" 2>&1 3>&- &
+    server=$!
+    for _ in $(seq 100); do
+        python3 -c 'import socket, sys; socket.create_connection(("127.0.0.1", int(sys.argv[1])))' "$port" 2> /dev/null && return
+        sleep 0.1
+    done
+    echo "$check: the server doesn't start"
+    exit 1
+}
+trap 'exec 3>&-; kill -9 "$server" 2> /dev/null; rm -rf "$work"' EXIT
+
+# clients NAME CHECK: what the clients print is what isn't as it should be
+clients() {
+    timeout 100 python3 tests/clients.py "$port" "$host" "$work/tree" "$2" > "$work/seen" 2>&1
+    local status=$?
+    said "$1" "$([ "$status" = 0 ] && [ ! -s "$work/seen" ] && echo 0 || echo 1)" "status $status; $(head -n 3 "$work/seen" | tr '\n' ';')"
+}
+# asked NAME COUNT PATTERN: how many requests of the pattern the mirror had
+asked() {
+    local count
+    count=$(grep -c "$3" "$work/log")
+    said "$1" "$([ "$count" = "$2" ] && echo 0 || echo 1)" "$count requests, wanted $2"
+}
+# refused NAME STATUS WORD..: another program ends with the status, and says nothing
+refused() {
+    local name=$1 wanted=$2 got
+    shift 2
+    timeout 20 "$program" "$@" > "$work/other" 2>&1
+    got=$?
+    said "$name" "$([ "$got" = "$wanted" ] && [ ! -s "$work/other" ] && echo 0 || echo 1)" "status $got, wanted $wanted"
+}
+
+start_server
+clients '64 clients for 20 files' crowd
+asked 'the mirror is asked once for each' 20 '^GET /tree/'
+clients 'the same again' crowd
+asked 'and not again for what is held' 20 '^GET /tree/'
+clients 'requests of one connection, in order' line
+clients 'others are served beside those that stall' stalls
+refused 'another server at the folder' 5 serve --conf "$work/acng.conf" --cache "$work/cache"
+refused 'another server at the address' 4 serve --conf "$work/acng.conf" --cache "$work/other.cache"
+
+timeout 100 python3 tests/clients.py "$port" "$host" "$work/tree" loads > /dev/null 2>&1 &
+loading=$!
+sleep 0.5
+kill -9 "$server"
+wait "$server" 2> /dev/null
+wait "$loading"
+start_server
+clients 'after a kill in the middle of 30 downloads' after
+clients 'and what was held before' crowd
+asked 'is held still' 20 '^GET /tree/'
+said 'the server says nothing' "$([ ! -s "$work/said" ] && echo 0 || echo 1)" "$(head -n 1 "$work/said")"
+exit $failed
