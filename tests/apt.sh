@@ -1,7 +1,8 @@
 #!/usr/bin/env bash
 # apt itself over the cache: a small repository behind a mirror on the loopback, and a super-server that starts one `acng once`
 # for each connection. `apt-get update` and `apt-get download` run in a private root; apt compares every hash. In the second
-# round, with nothing left in apt's root, the mirror is asked for nothing but files that may change.
+# round, with nothing left in apt's root, the mirror is asked for nothing but files that may change. Then apt goes on with half of
+# a package.
 # Once with indexes by their hashes and once by their names.
 set -u
 cd "$(dirname "$0")/.." || exit 1
@@ -139,6 +140,15 @@ for by_hash in yes no; do
     [ "$by_hash" = yes ] && volatile='/(InRelease|Release|Release.gpg) [0-9]+( date)?$'
     ! grep -Evq "$volatile" "$work/log" && [ -s "$work/log" ]
     said "by hash $by_hash: only what may change is asked for again" $? "$(cat "$work/log")"
+    # apt has half of a package, and goes on with it by a range and the file's date.
+    whole=$work/$repository/pool/main/koala19_1.0_all.deb
+    archives=$work/root/var/cache/apt/archives
+    half=$archives/partial/$(basename "$whole")
+    head -c 100000 "$whole" > "$half"
+    touch -r "$whole" "$half"
+    apt apt-get -o Debug::Acquire::http=true install -y -d koala19 > "$work/download" 2>&1
+    { cmp -s "$whole" "$archives/$(basename "$whole")" && grep -aq '206 Partial Content' "$work/download"; }
+    said "by hash $by_hash: a package that broke off is gone on with" $? "$(cat "$work/download")"
     [ ! -s "$work/statuses_$by_hash" ]
     said "by hash $by_hash: no run fails" $? "$(cat "$work/statuses_$by_hash")"
     kill "$server"
