@@ -20,7 +20,8 @@ module _ (limit now : ℕ) (reached : Bool) where
     held : (b : Bool) → Some (body_of (remarked now reached w)) ≡ Some (record { id = w.id; mark = new_mark reached now (seconds w.mark) })
     held b = ap (λ m. Some (record { id = w.id; mark = m })) (seconds_of (new_mark reached now (seconds w.mark)))
 
-    by_due : (b : Bool) (part : Place) → option_map body_of (whole_of (cond b (emptied (record part { row = after })) (record part { row = after })))
+    by_due : (b : Bool) (part : Place)
+        → option_map body_of (whole_of (cond b (emptied (record part { row = after })) (record part { row = after })))
         ≡ cond b None (Some (record { id = w.id; mark = new_mark reached now (seconds w.mark) }))
     by_due true part = ap (option_map body_of) (emptied_bare after)
     by_due false part = held false
@@ -37,14 +38,16 @@ module _ (limit now : ℕ) (reached : Bool) where
       ∙ ap (λ b. cond b None (Some (record { id = w.id; mark = new_mark reached now (seconds w.mark) }))) (due_is row w)
 
   by_row : (o : Option Row) (part : Place)
-      → option_map body_of (whole_of (expired limit now reached (record part { row = o }))) ≡ after_held limit now reached (option_map body_of (whole_in o))
+      → option_map body_of (whole_of (expired limit now reached (record part { row = o })))
+      ≡ after_held limit now reached (option_map body_of (whole_in o))
   by_row None part = refl
   by_row (Some r) part = by_whole r r.whole part
 
 done : (r : Run) (old new : Plain) (removed marked : ℕ) → IsFinished r old new removed marked
     → IsDone r.limit r.now r.reached (bodies_of old) (bodies_of new)
 done r old new removed marked f = record {
-  each = λ q. ap (λ p. option_map body_of (whole_of p)) (f.places.each q) ∙ by_row r.limit r.now (r.reached q) (map.get old.rows q) (place_at old q);
+  each = λ q. ap (λ p. option_map body_of (whole_of p)) (f.places.each q)
+      ∙ by_row r.limit r.now (r.reached q) (map.get old.rows q) (place_at old q);
   next = ap (λ (p : Plain). p.next_id) f.places.others;
 }
 

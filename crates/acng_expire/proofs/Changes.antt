@@ -162,7 +162,8 @@ module _ (limit now : ℕ) (p : Plain) (path : List ℕ) where
     place_case q true o = refl
     place_case q false o = refl
 
-    emptied_is : record { row = cond (is_some (out_at p.rows path)) (Some (record { whole = None; out = out_at p.rows path })) None; part = None }
+    emptied_is :
+        record { row = cond (is_some (out_at p.rows path)) (Some (record { whole = None; out = out_at p.rows path })) None; part = None }
         ≡ cleared limit now (place_at p path)
     emptied_is =
         ap (λ (r : Option Row). record { row = r; part = None }) (gone_row (map.get p.rows path) at)
@@ -178,9 +179,10 @@ module _ (limit now : ℕ) (p : Plain) (path : List ℕ) where
             part = x;
           }) (got-remove p.parts path q)
           ∙ place_case q (tie q path) (cond (is_some (out_at p.rows path)) (Some (record { whole = None; out = out_at p.rows path })) None)
-          ∙ at_point (cleared limit now) path p q
-          (record { row = cond (is_some (out_at p.rows path)) (Some (record { whole = None; out = out_at p.rows path })) None; part = None })
-          emptied_is;
+          ∙ at_point (cleared limit now) path p q (record {
+            row = cond (is_some (out_at p.rows path)) (Some (record { whole = None; out = out_at p.rows path })) None;
+            part = None;
+          }) emptied_is;
       others = refl;
     }
 

@@ -95,7 +95,8 @@ module _ (tells : Bool) (failed : List (List ℕ)) (now : ℕ) (old mid new : Ho
   still_found t f =
       let kept : stored mid.kept ≡ stored old.kept =
       told_same tells (stored mid.kept) (stored old.kept) (stored nothing) t (ap (λ r. r.stored) rests) in
-      subst (λ (s : Stored). IsExact mid.plain.rows s) (sym kept) (subst (λ (p : Plain). IsExact p.rows (stored old.kept)) (sym (plain_is tells old mid rests)) f)
+      subst (λ (s : Stored). IsExact mid.plain.rows s) (sym kept)
+      (subst (λ (p : Plain). IsExact p.rows (stored old.kept)) (sym (plain_is tells old mid rests)) f)
 
   cut_by : (removed : ℕ) → IsCutIn (run_of mid.plain now found) mid.plain new.plain removed
       → IsCutIn (run_of old.plain now found) old.plain new.plain removed

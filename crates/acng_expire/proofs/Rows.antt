@@ -68,10 +68,15 @@ place_free = refl
 
 -- a ticket that is out keeps its row, without the body
 abbrev led : Option Whole → Place
-led whole = record { row = Some (record { whole = whole; out = Some (record { first = 16; fresh = 2; part = None; was = None }) }); part = None }
+led whole = record {
+  row = Some (record { whole = whole; out = Some (record { first = 16; fresh = 2; part = None; was = None }) });
+  part = None;
+}
 
-place_led : expired 345600 1345601 false
-    (led (Some (record { id = 1; label = Fetched 0 0; size = 3; tag = None; modified = None; checked = at 5; mark = Some (at 0) }))) ≡ led None
+abbrev marked : Whole
+marked = record { id = 1; label = Fetched 0 0; size = 3; tag = None; modified = None; checked = at 5; mark = Some (at 0) }
+
+place_led : expired 345600 1345601 false (led (Some marked)) ≡ led None
 place_led = refl
 
 -- ---- three bodies that are due, and the second removal is refused

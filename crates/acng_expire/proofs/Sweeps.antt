@@ -45,7 +45,8 @@ module _ (test : List ℕ → Bool) where
       → how_many test (take (i + 1) ps) ≡ how_many test (take i ps) + one (test p)
   many_step ps i p lt is = ap (how_many test) (front_push ps i p lt is) ∙ many_push (take i ps) p
 
-pub many_same : (test other : List ℕ → Bool) → ((q : List ℕ) → test q ≡ other q) → (ps : List (List ℕ)) → how_many test ps ≡ how_many other ps
+pub many_same : (test other : List ℕ → Bool) → ((q : List ℕ) → test q ≡ other q) → (ps : List (List ℕ))
+    → how_many test ps ≡ how_many other ps
 many_same test other alike [] = refl
 many_same test other alike (p ∷ ps) =
     ap (λ b. one b + how_many test ps) (alike p) ∙ ap (λ n. one (other p) + n) (many_same test other alike ps)

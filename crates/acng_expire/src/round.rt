@@ -5,7 +5,8 @@ ghost use Rattle.acng_desk.specs.Commands.{SetMark, Remove, step};
 ghost use Rattle.acng_desk.specs.Stops.{IsFound};
 ghost use Rattle.acng_reach.specs.Bodies.{MaySlip};
 ghost use Rattle.acng_expire.specs.Places.{place_at, remarked_place, cleared};
-ghost use Rattle.acng_expire.specs.Rounds.{HasPlaces, AreApart, run_of, limit_of, with_marks, with_removals, changed_at, how_many, one, is_due_at, is_marked_at, HasLost};
+ghost use Rattle.acng_expire.specs.Rounds.{HasPlaces, AreApart, HasLost, run_of, limit_of, with_marks, with_removals, changed_at};
+ghost use Rattle.acng_expire.specs.Rounds.{how_many, one, is_due_at, is_marked_at};
 
 use crate::mark::{is_over, is_same, new_mark};
 use acng_base::{CachePath, Moment};
@@ -64,7 +65,8 @@ fn mark_one<S: Site, K: Keeper, T: Joint>(
     reached: bool,
     now: Moment,
 ) -> Result<(), KeepFault<SlipOf<K>>>
-    ensures places { OnOk result (HasPlaces (changed_at (remarked_place now.0 reached) path.now desk.old.plain) desk.old.plain desk.new.plain) }
+    ensures places { OnOk result (HasPlaces
+        (changed_at (remarked_place now.0 reached) path.now desk.old.plain) desk.old.plain desk.new.plain) }
     ensures exact { OnOk result (K.tells ≡ true → IsFound desk.old → IsFound desk.new) }
     ensures same { OnErr result (desk.new.plain ≡ desk.old.plain) }
     ensures cause { IfErr result (MaySlip desk.old.faults.may_fail) }

@@ -91,7 +91,8 @@ module _ (r : Run) (old : Plain) (ps : List (List ℕ)) where
     marked_next : (new : Plain) → HasPlaces (changed_at (remarked_place r.now (r.reached path)) path m.plain) m.plain new
         → HasPlaces (marks_at (i + 1)) old new
     marked_next new now =
-        round_step (λ q p. remarked_place r.now (r.reached q) p) (marks_settled r.now r.reached) old m.plain new ps i path lt (within ps i [] path lt) m.at now
+        round_step (λ q p. remarked_place r.now (r.reached q) p) (marks_settled r.now r.reached) old m.plain new ps i path lt
+        (within ps i [] path lt) m.at now
 
     mark_by : (o : Option Whole) → whole_at m.plain.rows path ≡ o → Made (marks_at (i + 1)) old
     mark_by None e = record {
@@ -130,7 +131,8 @@ module _ (limit now : ℕ) (old : Plain) (ps : List (List ℕ)) where
 
     gone_next : (new : Plain) → HasPlaces (changed_at (cleared limit now) goes m.plain) m.plain new → HasPlaces (gone_at (i + 1)) old new
     gone_next new change =
-        round_step (λ q p. cleared limit now p) (removals_settled limit now) old m.plain new ps i goes lt (within ps i [] goes lt) m.at change
+        round_step (λ q p. cleared limit now p) (removals_settled limit now) old m.plain new ps i goes lt
+        (within ps i [] goes lt) m.at change
 
     gone_whole : (o : Option Whole) → whole_at m.plain.rows goes ≡ o → is_due limit now (whole_at m.plain.rows goes) ≡ true
         → Made (gone_at (i + 1)) old
@@ -169,7 +171,8 @@ by_made places old new m h =
 module _ (r : Run) (old : Plain) (all : (q : List ℕ) → among q r.paths ≡ has_whole old.rows q) where
   marked : Made (with_marks r (place_at old) r.paths) old
   marked =
-      subst (λ ps. Made (with_marks r (place_at old) ps) old) (take-length r.paths) (marks_made r old r.paths (length r.paths) (omega arith))
+      subst (λ ps. Made (with_marks r (place_at old) ps) old) (take-length r.paths)
+      (marks_made r old r.paths (length r.paths) (omega arith))
 
   removed : (i : ℕ) → i ≤ length r.paths → Made (with_removals r.limit r.now (place_at marked.plain) (take i r.paths)) marked.plain
   removed i le = gone_made r.limit r.now marked.plain r.paths i le
@@ -177,7 +180,8 @@ module _ (r : Run) (old : Plain) (all : (q : List ℕ) → among q r.paths ≡ h
   done_calls : (new : Plain) (gone marks : ℕ) → IsFinished r old new gone marks → AreCalls old new
   done_calls new gone marks f =
       let m = removed (length r.paths) (omega arith) in
-      let at = subst (λ ps. HasPlaces (with_removals r.limit r.now (place_at marked.plain) ps) marked.plain m.plain) (take-length r.paths) m.at in
+      let at = subst (λ ps. HasPlaces (with_removals r.limit r.now (place_at marked.plain) ps) marked.plain m.plain)
+      (take-length r.paths) m.at in
       let made : Made (λ q. expired r.limit r.now (r.reached q) (place_at old q)) old = record {
         plain = m.plain;
         calls = joined old marked.plain m.plain marked.calls m.calls;

@@ -12,7 +12,8 @@ returns g c =
     let found = c.in-Ok.reach in
     let same = plain_is g.K.Keeper.tells old c.of.new.desk of.rests in
     let most : c.from.result ≡ old.plain.rules.abort_limit =
-    c.from.ensures ∙ c.abort_limit.ensures ∙ ap (λ (r : Rules). r.abort_limit) c.rules.ensures ∙ ap (λ (p : Plain). p.rules.abort_limit) same in
+    c.from.ensures ∙ c.abort_limit.ensures ∙ ap (λ (r : Rules). r.abort_limit) c.rules.ensures
+    ∙ ap (λ (p : Plain). p.rules.abort_limit) same in
     let count : c.len-problems.result ≡ length found.problems = c.len-problems.ensures ∙ ap length c.problems.ensures in
     let goes : is_stopped old.plain found ≡ false =
     sym (c.if-is_broken.ensures ∙ ap (λ n. is_broken n c.len-problems.result) most ∙ ap (is_broken old.plain.rules.abort_limit) count) in
