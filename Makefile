@@ -8,6 +8,7 @@ test:
 	rt ci
 	bash tests/loopback.sh
 	bash tests/cache.sh
+	bash tests/serve.sh
 	bash tests/replies.sh
 	bash tests/serve_table.sh
 	bash tests/apt.sh
