@@ -1,5 +1,5 @@
 #!/usr/bin/env python3
-"""A model of what the indexes of a cache reach and name, and of the folders that are problems, from the rules alone.
+"""A model of what the indexes of a cache reach and name, of the folders that are problems, and of imports, from the rules alone.
 
 `reach.py stdin` prints the caches of the table as the program `acng_reach_table` reads them; `reach.py stdout` prints what it has
 to print of them. The model reads whole texts with regular expressions and keeps Python's sets; it shares nothing with the program.
@@ -213,6 +213,48 @@ class Reach:
             self.named.add((path, sha256, size))
 
 
+# ---- classes and imports
+
+def is_forbidden(path):
+    """Without extra patterns: neither an index nor a file of a repository."""
+    segments = path.split("/")
+    name = segments[-1]
+    base = re.sub(r"\.(gz|xz|bz2|lzma|zst)$", "", name)
+    if len(segments) > 2 and segments[-3] == "by-hash" and segments[-2] in ("MD5Sum", "SHA1", "SHA256", "SHA512"):
+        if re.fullmatch(r"[0-9a-fA-F]+", name):
+            return False
+    if len(segments) > 1 and segments[-2].endswith(".diff") and base != "Index":
+        return False
+    if base in ("Release", "InRelease", "Release.gpg", "Packages", "Sources", "Index", "ls-lR", "MD5SUMS", "SHA256SUMS"):
+        return False
+    if re.match(r"(Contents|Translation|Components|Commands|icons)-", base) or any(s.startswith("installer-") for s in segments):
+        return False
+    return not re.search(r"\.(deb|udeb|ddeb|dsc|gz|xz|bz2|lzma|zst|asc|changes|buildinfo)$", name)
+
+
+def import_found(held, found, rows, fail):
+    """The printed lines, and what is held afterwards. A small file is read once, and once more for its end."""
+    held, named, read, lines = dict(held), Reach(held, []).named, 0, []
+    for name, text in found:
+        shown = re.sub(rb"[^!-~]", b"?", name.encode()).decode()
+        reads = range(read, read + (2 if text else 1))
+        failed = [number for number in reads if number in fail]
+        read = failed[0] + 1 if failed else reads.stop
+        if failed:
+            lines.append("fault " + shown)
+            continue
+        paths = sorted(path for path, sha256, size in named if (sha256, size) == (digest(text), len(text)))
+        wanted = [path for path in paths if not is_forbidden(path) and not (path in held and digest(held[path]) == digest(text))]
+        word = "unknown" if not paths else "held" if not wanted else "kept %d" % len(wanted)
+        for path in wanted:
+            if path not in held and len(held) >= rows:
+                word = "full"
+                break
+            held[path] = text
+        lines.append(word + " " + shown)
+    return lines, held
+
+
 # ---- texts for the table
 
 def entry(path, text, size=None, sha256=None):
@@ -371,41 +413,101 @@ def table():
          "a/b/Z/Packages": "x\n", "a/b/Packages.xz": "y\n"}, ["a-b/c", "a/b/Z/q", "B/c"], [], []
 
 
+def imports():
+    """The cases of imports: a name, what is held, the found files, the most rows, and the numbers of the reads that fail."""
+    lists = {STABLE + "/InRelease": inrelease(entry(BINARY + "/Packages", AB), entry(BINARY + "/Packages.xz", "xz\n"))}
+    listed = {**lists, STABLE + "/" + BINARY + "/Packages": AB}
+    names = ("a.deb", "b.deb", "c.deb")
+    flat = "\n".join(package(name, "abc\n") for name in names)
+    three = {"h/flat/Release": release(entry("Packages", flat)), "h/flat/Packages": flat}
+    yield "a list of packages is found", \
+        {**lists, STABLE + "/" + BINARY + "/Packages.xz": "xz\n"}, [("Packages", AB), ("b", "abcd\n")], 9, []
+    yield "files of a list that is held", listed, [("b", "abcd\n"), ("c", "abce\n"), ("again", "abcd\n")], 9, []
+    yield "the names of odd files", listed, [("a b", "x\n"), ("\u00e9~", "abcd\n"), ("\t!", "")], 9, []
+    yield "a file at three paths", three, [("one", "abc\n")], 9, []
+    yield "a file at three paths of which one has it", {**three, "h/flat/b.deb": "abc\n"}, [("one", "abc\n"), ("two", "abc\n")], 9, []
+    yield "another file of the same size is held", {**three, "h/flat/b.deb": "abd\n"}, [("one", "abc\n")], 9, []
+    yield "another file of another size is held", {**three, "h/flat/b.deb": ""}, [("one", "abc\n")], 9, []
+    yield "rows for one path more", three, [("one", "abc\n"), ("two", "abc\n"), ("three", "x\n")], 3, []
+    yield "rows for none, but one path is there", {**three, "h/flat/a.deb": "x\n"}, [("one", "abc\n")], 3, []
+    yield "rows for no path", three, [("one", "abc\n")], 2, []
+    yield "a path that isn't passed on", \
+        {"h/flat/Release": release(entry("readme", "abc\n"), entry("a.deb", "abc\n"), entry("notes", "x\n"))}, \
+        [("one", "abc\n"), ("two", "x\n")], 9, []
+    yield "an index names itself by another text", {"h/flat/Release": release(entry("Release", "x\n"))}, [("Release", "x\n")], 9, []
+    yield "an index that doesn't read", {"h/flat/InRelease": release(entry("a.deb", "abc\n"))}, [("one", "abc\n")], 9, []
+    yield "an empty file", {"h/flat/Release": release(entry("a.deb", ""), entry("b.deb", ""))}, [("one", ""), ("two", "")], 9, []
+    yield "a name by a hash", {"h/flat/Release": release(entry("a.deb", "abc\n"))}, [("one", "abc\n")], 9, []
+    yield "the first read fails", three, [("one", "abc\n"), ("two", "abc\n")], 9, [0]
+    yield "the read of an end fails", three, [("one", "abc\n"), ("two", "abc\n")], 9, [1]
+    yield "the reads of two files fail", three, [("one", "abc\n"), ("two", "abc\n"), ("three", "abc\n"), ("four", "")], 9, [0, 2, 5]
+    yield "a read that doesn't come", three, [("one", "abc\n")], 9, [7]
+    yield "no index", {"h/a.deb": "abc\n"}, [("one", "abc\n")], 9, []
+    yield "nothing is held, and files are found", {}, [("one", "abc\n"), ("two", "")], 9, []
+
+
 # ---- printing
 
+def print_case(name, held, failed, tries, asks, found=(), rows=None, fail=()):
+    print("= " + name)
+    if rows is not None:
+        print("%% %d" % rows)
+    for path in sorted(held):
+        text = held[path]
+        assert is_path(path) and (not text or text.endswith("\n")), path
+        print("+ " + path)
+        for line in text.split("\n")[:-1]:
+            print("|" + line)
+    for path in failed:
+        print("! " + path)
+    for path in tries:
+        assert is_path(path), path
+        print("? " + path)
+    for sha256, size in asks:
+        print("# %s %d" % (sha256, size))
+    for file, text in found:
+        assert not text or text.endswith("\n"), file
+        print("@ " + file)
+        for line in text.split("\n")[:-1]:
+            print(">" + line)
+    for number in fail:
+        print("~ %d" % number)
+    print(".")
+
+
 def print_input():
-    for name, held, failed, tries, asks in table():
-        print("= " + name)
-        for path in sorted(held):
-            text = held[path]
-            assert is_path(path) and (not text or text.endswith("\n")), path
-            print("+ " + path)
-            for line in text.split("\n")[:-1]:
-                print("|" + line)
-        for path in failed:
-            print("! " + path)
-        for path in tries:
-            assert is_path(path), path
-            print("? " + path)
-        for sha256, size in asks:
-            print("# %s %d" % (sha256, size))
-        print(".")
+    for case in table():
+        print_case(*case)
+    for name, held, found, rows, fail in imports():
+        print_case(name, held, [], [], [], found, rows, fail)
+
+
+def print_reach(name, held, failed, tries, asks):
+    reach = Reach(held, failed)
+    print("= " + name)
+    for path in sorted(held) + tries:
+        if path in reach.reached:
+            print("reached " + path)
+    for text in sorted(reach.problems):
+        print("problem [%s]" % text)
+    for sha256, size in asks:
+        print("asked %s %d" % (sha256[:8], size))
+        for path in sorted(path for path, h, s in reach.named if (h, s) == (sha256, size)):
+            print("named " + path)
 
 
 def print_expected():
-    for name, held, failed, tries, asks in table():
-        reach = Reach(held, failed)
-        print("= " + name)
-        for path in sorted(held) + tries:
-            if path in reach.reached:
-                print("reached " + path)
-        for text in sorted(reach.problems):
-            print("problem [%s]" % text)
-        for sha256, size in asks:
-            print("asked %s %d" % (sha256[:8], size))
-            for path in sorted(path for path, h, s in reach.named if (h, s) == (sha256, size)):
-                print("named " + path)
+    for case in table():
+        print_reach(*case)
+    for name, held, found, rows, fail in imports():
+        print_reach(name, held, [], [], [])
+        lines, after = import_found(held, found, rows, fail)
+        for line in lines:
+            print(line)
+        for path in sorted(after):
+            print("holds %s %d %d" % (path, len(after[path]), int(digest(after[path])[:2], 16)))
 
 
 if __name__ == "__main__":
+    sys.stdout.reconfigure(encoding="utf-8")
     {"stdin": print_input, "stdout": print_expected}[sys.argv[1]]()

@@ -1,7 +1,7 @@
 //! A case of the table.
 
 use crate::broken;
-use acng_base::{CachePath, Hash};
+use acng_base::{CachePath, Hash, Text};
 use hex::FromHex;
 use std::alloc::Global;
 use std::io;
@@ -21,21 +21,36 @@ pub struct Ask {
     pub digits: String,
 }
 
+/// A found file.
+#[derive(Drop)]
+pub struct Found {
+    pub name: Text,
+    pub text: Vec<u8>,
+}
+
 #[derive(Drop)]
 pub struct Case {
+    /// The most rows of the desk.
+    pub rows: u32,
     pub held: Vec<File>,
     pub failed: Vec<CachePath>,
     pub tried: Vec<CachePath>,
     pub asks: Vec<Ask>,
+    pub found: Vec<Found>,
+    /// The numbers of the reads of found files that fail.
+    pub fail: Vec<u64>,
 }
 
 impl Case {
     pub fn new(alloc: Global) -> Case {
         Case {
+            rows: 4096,
             held: Vec::new(alloc),
             failed: Vec::new(alloc),
             tried: Vec::new(alloc),
             asks: Vec::new(alloc),
+            found: Vec::new(alloc),
+            fail: Vec::new(alloc),
         }
     }
 
@@ -53,8 +68,55 @@ impl Case {
         if let Some(text) = line.strip_prefix("? ") {
             return add_path(alloc, &mut self.tried, text);
         }
-        match line.strip_prefix("# ") {
-            Some(text) => self.add_ask(alloc, text),
+        if let Some(text) = line.strip_prefix("# ") {
+            return self.add_ask(alloc, text);
+        }
+        self.take_import(alloc, line)
+    }
+
+    // A line that says something of an import.
+    fn take_import(&mut self, alloc: Global, line: &str) -> io::Result<()> {
+        if let Some(text) = line.strip_prefix("@ ") {
+            return self.add_found(alloc, text);
+        }
+        if let Some(text) = line.strip_prefix(">") {
+            return self.add_found_line(text);
+        }
+        if let Some(text) = line.strip_prefix("~ ") {
+            self.fail.push(number_of(text)?)?;
+            return Ok(());
+        }
+        match line.strip_prefix("% ") {
+            Some(text) => self.limit(number_of(text)?),
+            None => Err(broken()),
+        }
+    }
+
+    fn limit(&mut self, rows: u64) -> io::Result<()> {
+        if rows == 0 || rows > 4096 {
+            return Err(broken());
+        }
+        self.rows = rows as u32;
+        Ok(())
+    }
+
+    fn add_found(&mut self, alloc: Global, name: &str) -> io::Result<()> {
+        let Ok(name) = Text::copy(alloc, name.as_bytes()) else {
+            return Err(broken());
+        };
+        let text = Vec::new(alloc);
+        self.found.push(Found { name, text })?;
+        Ok(())
+    }
+
+    // A line of the last found file.
+    fn add_found_line(&mut self, text: &str) -> io::Result<()> {
+        match self.found.last_mut() {
+            Some(found) => {
+                found.text.extend_from_slice(text.as_bytes())?;
+                found.text.push(b'\n')?;
+                Ok(())
+            }
             None => Err(broken()),
         }
     }
@@ -89,6 +151,13 @@ impl Case {
         let hash = Hash(bytes);
         self.asks.push(Ask { hash, size, digits })?;
         Ok(())
+    }
+}
+
+fn number_of(text: &str) -> io::Result<u64> {
+    match text.parse::<u64>() {
+        Ok(number) => Ok(number),
+        Err(_) => Err(broken()),
     }
 }
 

@@ -1,16 +1,20 @@
-//! Prints what caches reach and name, and which folders are problems in them: the table of `acng_reach`.
+//! Prints what caches reach and name, and which folders are problems in them, and what an import makes of them: the table of
+//! `acng_reach` and `acng_import`.
 //!
 //! Standard input has a case after another. A line begins with what it says: `=` the name of the case, `+` a held path, whose
 //! bytes are the lines with `|` that follow, each with a line feed, `!` a failed path, `?` a further path to try, `#` a hash
-//! and a size to ask for, and `.` alone the end of the case.
+//! and a size to ask for, `@` a found file, whose bytes are the lines with `>` that follow, `~` the number of a read of found
+//! files that fails, `%` the most rows, and `.` alone the end of the case. Where there are found files, they are imported.
 #![tactic(auto)]
 
 mod case;
+mod found;
 mod shop;
 
 use acng_base::{CachePath, Texts};
 use acng_reach::Reach;
 use case::{Ask, Case};
+use found::{show_held, show_import};
 use shop::{Shop, filled};
 use std::alloc::Global;
 use std::{io, str};
@@ -39,9 +43,19 @@ fn take(rt: &impl Print, alloc: Global, case: &mut Case, line: &str) -> io::Resu
 
 // What the cache of a case reaches and names, and its problems.
 fn show(rt: &impl Print, alloc: Global, case: &Case) -> io::Result<()> {
-    let Some(shop) = filled(alloc, &case.held) else {
+    let Some(shop) = filled(alloc, case.rows, &case.held) else {
         return Err(broken());
     };
+    let mut shop = shop;
+    show_reach(rt, alloc, &mut shop, case)?;
+    if case.found.is_empty() {
+        return Ok(());
+    }
+    show_import(rt, alloc, &mut shop, case)?;
+    show_held(rt, alloc, &shop)
+}
+
+fn show_reach(rt: &impl Print, alloc: Global, shop: &mut Shop, case: &Case) -> io::Result<()> {
     let Some(reach) = reach_of(alloc, shop, case) else {
         return Err(broken());
     };
@@ -58,19 +72,18 @@ fn show(rt: &impl Print, alloc: Global, case: &Case) -> io::Result<()> {
     Ok(())
 }
 
-fn reach_of(alloc: Global, shop: Shop, case: &Case) -> Option<Reach> {
-    let mut shop = shop;
-    match Reach::of(alloc, &mut shop, &case.failed) {
+fn reach_of(alloc: Global, shop: &mut Shop, case: &Case) -> Option<Reach> {
+    match Reach::of(alloc, shop, &case.failed) {
         Ok(reach) => Some(reach),
         Err(_) => None,
     }
 }
 
-fn broken() -> io::Error {
+pub fn broken() -> io::Error {
     io::Error::from(io::ErrorKind::InvalidInput)
 }
 
-fn text_of(bytes: &[u8]) -> &str {
+pub fn text_of(bytes: &[u8]) -> &str {
     match str::from_utf8(bytes) {
         Ok(text) => text,
         Err(_) => "?",

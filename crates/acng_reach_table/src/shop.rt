@@ -12,9 +12,9 @@ use std::alloc::Global;
 
 pub type Shop = Desk<Untold, MemoryKeeper, ()>;
 
-/// A desk that holds these files.
-pub fn filled(alloc: Global, files: &[File]) -> Option<Shop> {
-    let mut shop = empty(alloc)?;
+/// A desk of at most so many rows that holds these files.
+pub fn filled(alloc: Global, rows: u32, files: &[File]) -> Option<Shop> {
+    let mut shop = empty(alloc, rows)?;
     for file in files {
         put(alloc, &mut shop, &file.path, &file.text)?;
     }
@@ -29,7 +29,10 @@ fn right(alloc: Global) -> Option<Right<Untold>> {
 }
 
 #[tactic(auto, using(crate::proofs::Empty::nothing_faithful))]
-fn empty(alloc: Global) -> Option<Shop> {
+fn empty(alloc: Global, rows: u32) -> Option<Shop> {
+    if rows == 0 || rows > 4096 {
+        return None;
+    }
     let right = right(alloc)?;
     let Ok(conf) = read_conf(alloc, b"", &[]) else {
         return None;
@@ -37,7 +40,7 @@ fn empty(alloc: Global) -> Option<Shop> {
     let Ok(keeper) = MemoryKeeper::new(alloc, &[]) else {
         return None;
     };
-    match Desk::start(alloc, keeper, right, &conf, 4096) {
+    match Desk::start(alloc, keeper, right, &conf, rows) {
         Ok(shop) => Some(shop),
         Err(_) => None,
     }
