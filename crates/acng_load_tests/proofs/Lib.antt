@@ -1,0 +1,3 @@
+-- Lemmas of the tests.
+pub mod Empty
+pub mod Unused
