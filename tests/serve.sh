@@ -28,7 +28,7 @@ start_server() {
     echo "$check: the server doesn't start"
     exit 1
 }
-trap 'exec 3>&-; kill -9 "$server" 2> /dev/null; rm -rf "$work"' EXIT
+trap 'exec 3>&-; kill -9 "$server"; wait "$server" 2> /dev/null; rm -rf "$work"' EXIT
 
 # clients NAME CHECK: what the clients print is what isn't as it should be
 clients() {
