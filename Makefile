@@ -17,6 +17,7 @@ test:
 	bash tests/check_conf.sh
 	bash tests/desk_table.sh
 	bash tests/report.sh
+	bash tests/expire.sh
 	bash tests/folder_syncs.sh
 	bash tests/debian_index.sh
 	bash tests/reach_table.sh

@@ -2,9 +2,9 @@
 //!
 //! `acng once` reads one request from standard input, answers it from the cache folder or by asking the origins over TCP,
 //! and writes the reply to standard output. `acng serve` does so for every connection to a port, many at a time. `acng report`
-//! prints what the cache folder holds, and `acng check-conf` what is wrong with a configuration. This file only hands the
-//! words, the streams, the files and the sockets over: what is done is `run_single`'s, `serve`'s, `run_report`'s and
-//! `run_maint`'s.
+//! prints what the cache folder holds, `acng expire` removes from it what no index has named for too long, and
+//! `acng check-conf` prints what is wrong with a configuration. This file only hands the words, the streams, the files, the
+//! clock and the sockets over: what is done is `run_single`'s, `serve`'s, `run_report`'s, `run_expire`'s and `run_maint`'s.
 #![tactic(auto)]
 
 mod cache;
@@ -13,7 +13,8 @@ mod files;
 use acng_base::{FileFault, HostClock, NoMemory, Source, StdLink, StdSink, StdSource, Text};
 use acng_cli::status::{CONFIGURATION, DONE, FAILED, KEEPER, NO_MEMORY};
 use acng_cli::{
-    Command, Opened, Words, WordsFault, open_desk, read_words, run_maint, run_report, run_single,
+    Command, Opened, Words, WordsFault, open_desk, read_words, run_expire, run_maint, run_report,
+    run_single,
 };
 use acng_conf::ListFile;
 use acng_keeper::{FolderKeeper, OpenFault};
@@ -47,7 +48,9 @@ fn run<R: Net<Stream = TcpStream, Listener = TcpListener> + Threads + Wait + Clo
         Err(_) => return over_nothing(rt, words),
     };
     let status = match read.command {
-        Command::Once | Command::Report | Command::Serve => over_cache(rt, server, words, &read),
+        Command::Once | Command::Report | Command::Expire | Command::Serve => {
+            over_cache(rt, server, words, &read)
+        }
         Command::CheckConf => check_conf(rt, words, &read.conf),
         _ => Ok(over_nothing(rt, words)),
     };
@@ -73,7 +76,7 @@ fn words_of(rt: &HostRuntime) -> Result<Vec<Text>, NoMemory> {
     Ok(words)
 }
 
-// ---- once, serve, report
+// ---- once, serve, report, expire
 
 // A command over the cache folder, by the configuration that the words name.
 fn over_cache<R: Net<Stream = TcpStream, Listener = TcpListener> + Threads + Wait + Clock + Sync>(
@@ -111,6 +114,7 @@ fn over_cache_by<
     };
     match read.command {
         Command::Report => report(rt, words, keeper, &mut conf, lists),
+        Command::Expire => expire(rt, words, keeper, &mut conf, lists),
         Command::Serve => serve_clients(rt, server, words, keeper, &mut conf, lists),
         _ => answer(rt, words, keeper, &mut conf, lists),
     }
@@ -184,8 +188,32 @@ fn report<I: Source>(
     Ok(ended.status)
 }
 
-// The status where the cache folder can't be opened: that of a configuration that is refused goes first, and a report
-// prints the refusal.
+// One run of expiration by the machine's clock. Nobody is asked for anything.
+fn expire<I: Source>(
+    rt: &HostRuntime,
+    words: &[Text],
+    keeper: FolderKeeper<HostRuntime>,
+    conf: &mut I,
+    lists: &[ListFile],
+) -> Result<u8, FileFault> {
+    let (_origin, right) = NetOrigin::start(rt.clone()?);
+    let mut clock = HostClock::new(rt.clone()?);
+    let mut out = StdSink::new(rt.stdout());
+    let ended = run_expire(
+        rt.alloc(),
+        words,
+        keeper,
+        right,
+        conf,
+        lists,
+        &mut clock,
+        &mut out,
+    );
+    Ok(ended.status)
+}
+
+// The status where the cache folder can't be opened: that of a configuration that is refused goes first, and a command that
+// prints prints the refusal.
 fn without_cache<I: Source>(
     rt: &HostRuntime,
     read: &Words,
@@ -196,9 +224,13 @@ fn without_cache<I: Source>(
     let mut nowhere = StdSink::new(io::sink());
     match run_maint(rt.alloc(), &words, conf, lists, &mut nowhere) {
         DONE => Ok(KEEPER),
-        CONFIGURATION if read.command == Command::Report => check_conf(rt, &words, &read.conf),
+        CONFIGURATION if prints(read.command) => check_conf(rt, &words, &read.conf),
         status => Ok(status),
     }
+}
+
+fn prints(command: Command) -> bool {
+    command == Command::Report || command == Command::Expire
 }
 
 // ---- check-conf

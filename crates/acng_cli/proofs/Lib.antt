@@ -1,5 +1,6 @@
 pub mod Cases
 pub mod Enough
+pub mod Expires
 pub mod FileNotes
 pub mod Ran
 pub mod Reading

@@ -1,3 +1,4 @@
+pub mod Expire
 pub mod Maint
 pub mod Once
 pub mod Opens

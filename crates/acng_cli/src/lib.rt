@@ -1,9 +1,11 @@
 //! The program's commands, as calls over any link, source, sink, origin, keeper, clock and site.
 //!
 //! `once` opens a desk over a keeper, reads one request from a link, answers it and writes one reply. `report` prints what a
-//! desk holds, and `check-conf` what is wrong with a configuration. The words of the command line are read by `clap`.
+//! desk holds, `expire` makes a run of expiration over it, and `check-conf` prints what is wrong with a configuration. The
+//! words of the command line are read by `clap`.
 #![tactic(auto)]
 
+mod expire;
 mod maint;
 mod once;
 mod opening;
@@ -14,6 +16,7 @@ mod source;
 pub mod status;
 mod words;
 
+pub use expire::run_expire;
 pub use maint::run_maint;
 pub use once::{Once, OnceStop, run_once};
 pub use opening::{Maint, Opened, open_desk};

@@ -168,8 +168,8 @@ fn print_table<S: Site, K: Keeper, W: Sink>(
     }
 }
 
-// Prints what is wrong with a configuration, and gives the status.
-fn print_refusal<W: Sink>(alloc: Global, fault: ConfFault, out: &mut W) -> u8
+/// Prints what is wrong with a configuration, and gives the status.
+pub(crate) fn print_refusal<W: Sink>(alloc: Global, fault: ConfFault, out: &mut W) -> u8
     ensures { PrintsUnless W.Sink (of_conf (Err fault)) result out.old out.new }
 {
     match refused(alloc, fault) {

@@ -1,0 +1,125 @@
+#!/usr/bin/env bash
+# Runs the built program's `expire` over a cache folder: what `once` has fetched with an index and without one, marks of long ago,
+# a list that isn't the one that its index names, and each status. The wanted lines and tables are written from the rules.
+set -u
+cd "$(dirname "$0")/.." || exit 1
+check=expire
+. tests/common.sh
+need python3 sha256sum
+build
+: > "$work/body"
+
+# A mirror's tree: an index, its list, a file that the list names, and one that it doesn't.
+tree=$work/tree list=main/binary-all/Packages
+mkdir -p "$tree/dists/s/${list%/*}" "$tree/pool"
+printf 'Package: a\nFilename: pool/a_1_all.deb\nSize: 3\nSHA256: %s\n' "$(printf abc | sha256sum | cut -c 1-64)" > "$tree/dists/s/$list"
+hash=$(sha256sum < "$tree/dists/s/$list" | cut -c 1-64) size=$(stat -c %s "$tree/dists/s/$list")
+printf -- '-----BEGIN PGP SIGNED MESSAGE-----\nHash: SHA256\n\nSHA256:\n %s %s %s\n-----BEGIN PGP SIGNATURE-----\n' \
+    "$hash" "$size" "$list" > "$tree/dists/s/InRelease"
+printf abc > "$tree/pool/a_1_all.deb"
+printf abcd > "$tree/pool/b_1_all.deb"
+start_mirror "$tree"
+release=$(stat -c %s "$tree/dists/s/InRelease")
+
+: > "$work/acng.conf"
+printf 'Port: 70000\n' > "$work/refused.conf"
+printf 'ExAbortOnProblems: 0\n' > "$work/never.conf"
+printf 'ExAbortOnProblems: 2\n' > "$work/two.conf"
+cache=$work/cache
+
+# fetch PATH: has `once` fetch it
+fetch() {
+    printf 'GET http://%s/tree/%s HTTP/1.1\r\n\r\n' "$host" "$1" |
+        timeout 50 "$program" once --conf "$work/acng.conf" --cache "$cache" > "$work/reply" || said "fetch $1" 1 "status $?"
+}
+# expect NAME STATUS WANTED WORD..: the status, and what is printed, where nobody is asked and nothing is said beside
+expect() {
+    local name=$1 status=$2 wanted=$3 before bad=0 got
+    shift 3
+    before=$(wc -l < "$work/log")
+    printf '%b' "$wanted" > "$work/wanted"
+    timeout 50 "$program" expire "$@" < /dev/null > "$work/printed" 2> "$work/said"
+    got=$?
+    { [ "$got" = "$status" ] && cmp -s "$work/printed" "$work/wanted" && [ ! -s "$work/said" ]; } || bad=1
+    [ "$(wc -l < "$work/log")" = "$before" ] || bad=1
+    said "$name" "$bad" "status $got, wanted $status, or it printed: $(head -c 400 "$work/printed")"
+}
+# holds NAME ROW..: the rows of the report, a row being a path, a size and a mark, where `now` is a moment of this check
+holds() {
+    local name=$1 bad=0 seen
+    shift
+    printf '%s\n' "$@" > "$work/wanted"
+    timeout 50 "$program" report --conf "$work/acng.conf" --cache "$cache" < /dev/null > "$work/table" || bad=1
+    seen=$(sed -n '$d; s,^[^/]*/tree/,,p' "$work/table" |
+        awk -v from="$began" -v to="$(date +%s)" '{ mark = $4 != "-" && $4 >= from && $4 <= to ? "now" : $4; print $1, $2, mark }')
+    [ "$seen" = "$(cat "$work/wanted")" ] || bad=1
+    said "$name" "$bad" "the folder has: $seen"
+}
+# number_of PATH: the number of the file's head and body in the folder
+number_of() { basename "$(grep -l "^path $host/tree/$1\$" "$cache"/h-*)" | cut -c 3-; }
+# mark_long_ago PATH: as if the file had been unreached since 1970
+mark_long_ago() {
+    local head
+    head=$cache/h-$(number_of "$1")
+    sed -i -e '/^mark /d' -e 's/^end$/mark 1000\nend/' "$head"
+}
+with=(--conf "$work/acng.conf" --cache "$cache")
+began=$(date +%s)
+
+expect 'an empty cache' 0 'done removed 0 marked 0\n' "${with[@]}"
+fetch pool/a_1_all.deb
+fetch pool/b_1_all.deb
+a='pool/a_1_all.deb 3' b='pool/b_1_all.deb 4' index="dists/s/InRelease $release -" packages="dists/s/$list $size -"
+expect 'files without an index' 1 'aborted problems 1\n' "${with[@]}"
+holds 'then nothing is marked' "$a -" "$b -"
+fetch dists/s/InRelease
+expect 'an index without its list' 0 'done removed 0 marked 2\n' "${with[@]}"
+holds 'what no list names is marked' "$index" "$a now" "$b now"
+fetch "dists/s/$list"
+expect 'an index and its list' 0 'done removed 0 marked 1\n' "${with[@]}"
+holds 'what the list names has no mark' "$index" "$packages" "$a -" "$b now"
+expect 'the same again' 0 'done removed 0 marked 1\n' "${with[@]}"
+holds 'and all stay' "$index" "$packages" "$a -" "$b now"
+
+# Marks of long ago, first where the list in the folder isn't the one that the index names.
+mark_long_ago pool/a_1_all.deb
+mark_long_ago pool/b_1_all.deb
+body=$cache/b-$(number_of "dists/s/$list")
+cp "$body" "$work/list"
+tr 'P' 'Q' < "$work/list" > "$body"
+expect 'another list than the one that is named' 1 'aborted problems 1\n' "${with[@]}"
+holds 'then nothing is removed' "$index" "$packages" "$a 1000" "$b 1000"
+expect 'that, and a configuration that is refused' 3 'line 1: BadNumber\n' --conf "$work/refused.conf" --cache "$cache"
+cp -r "$cache" "$work/other"
+expect 'one problem of at most one' 0 'done removed 2 marked 0\n' --conf "$work/two.conf" --cache "$work/other"
+rm -r "$work/other"
+cp -r "$cache" "$work/other"
+expect 'no limit of problems' 0 'done removed 2 marked 0\n' --conf "$work/never.conf" --cache "$work/other"
+if [ -c /dev/full ]; then
+    timeout 50 "$program" expire "${with[@]}" < /dev/null > /dev/full 2> "$work/said"
+    got=$?
+    bad=0
+    [ "$got" = 1 ] || bad=1
+    said 'an aborted run and a full disk at the output' "$bad" "status $got, wanted 1"
+fi
+cp "$work/list" "$body"
+gone=$cache/b-$(number_of pool/b_1_all.deb) stays=$cache/b-$(number_of pool/a_1_all.deb)
+expect 'the list again' 0 'done removed 1 marked 0\n' "${with[@]}"
+holds 'what was unreached for too long went' "$index" "$packages" "$a -"
+bad=0
+{ [ ! -e "$gone" ] && [ "$(cat "$stays")" = abc ]; } || bad=1
+said 'its file too, and no other' "$bad" "$(ls "$cache")"
+
+expect 'a configuration that is refused' 3 'line 1: BadNumber\n' --conf "$work/refused.conf" --cache "$cache"
+expect "a configuration that isn't there" 4 '' --conf "$work/nowhere.conf" --cache "$cache"
+expect 'a stray number' 2 'words: StrayNumber\n' 3
+expect 'a folder that is a file' 5 '' --conf "$work/acng.conf" --cache "$work/body"
+expect 'that, and a configuration that is refused' 3 'line 1: BadNumber\n' --conf "$work/refused.conf" --cache "$work/body"
+if [ -c /dev/full ]; then
+    timeout 50 "$program" expire "${with[@]}" < /dev/null > /dev/full 2> "$work/said"
+    got=$?
+    bad=0
+    [ "$got" = 4 ] || bad=1
+    said 'a full disk at the output' "$bad" "status $got, wanted 4"
+fi
+exit $failed
