@@ -38,7 +38,7 @@ done
 expect "$work/empty" 0 'ok groups 0 warnings 0\n' check-conf
 expect "$work/empty" 4 '' check-conf --conf acng.conf
 expect "$work/empty" 4 '' check-conf --conf nowhere/acng.conf
-expect "$work/conf/refused" 2 'words: Other\n' serve
+expect "$work/conf/refused" 2 'words: Other\n' import
 expect "$work/empty" 2 'words: Other\n' import
 expect "$work/empty" 2 'words: Other\n' gen 10
 expect "$work/empty" 2 'words: NotRead\n' gen 0
@@ -67,6 +67,6 @@ if [ -c /dev/full ]; then
     }
     full "$work/conf/groups" 4 check-conf
     full "$work/conf/refused" 3 check-conf
-    full "$work/empty" 2 serve
+    full "$work/empty" 2 import
 fi
 exit $failed
