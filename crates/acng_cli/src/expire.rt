@@ -8,8 +8,8 @@ ghost use Rattle.acng_expire.specs.Lines.{line_of, slip_of as slip_in};
 ghost use Rattle.acng_cli.specs.Words.{words_of};
 ghost use Rattle.acng_cli.specs.Maint.{ReadsFew};
 ghost use Rattle.acng_cli.specs.Opens.{Given, MaySay};
-ghost use Rattle.acng_cli.specs.Expire.{is_expire as is_expire_of, expire_in, run_status as run_status_of, unsaid_status as unsaid_status_of};
-ghost use Rattle.acng_cli.specs.Expire.{PrintsRun, ExpiresOver, Expires, RanExpire};
+ghost use Rattle.acng_cli.specs.Expire.{is_expire as is_expire_of, run_status as run_status_of, unsaid_status as unsaid_status_of};
+ghost use Rattle.acng_cli.specs.Expire.{PrintsRun, ExpiresOver, Expires, RanExpire, expire_in};
 
 use crate::maint::print;
 use crate::opening::{Maint, Opened, ended, start_desk};
