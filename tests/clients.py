@@ -106,6 +106,19 @@ def line(port, host, folder):
         print("the head's length is another")
 
 
+# A reply that closes reaches a client whole that has sent many requests behind it and reads late.
+def behind(port, host, folder):
+    name = files(folder)[-1]
+    target = "/%s/tree/%s" % (host, name)
+    client = Client(port)
+    client.send("GET", target, "Connection: close\r\n")
+    client.stream.sendall(b"GET /%s HTTP/1.1\r\n\r\n" % host.encode() * 2000)
+    time.sleep(0.5)
+    status, _, body = client.reply()
+    if status != 200 or body != bytes_of(folder, name):
+        print("status %d, %d bytes" % (status, len(body)))
+
+
 # Others are served while 50 connections say nothing, one says a byte a second, one takes nothing, and a mirror stalls.
 def stalls(port, host, folder):
     silent = [connect(port) for _ in range(50)]
@@ -156,5 +169,5 @@ def after(port, host, folder):
     run([lambda number=number: one(number) for number in range(30)])
 
 
-CHECKS = {"crowd": crowd, "line": line, "stalls": stalls, "loads": loads, "after": after}
+CHECKS = {"crowd": crowd, "line": line, "behind": behind, "stalls": stalls, "loads": loads, "after": after}
 CHECKS[sys.argv[4]](int(sys.argv[1]), sys.argv[2], sys.argv[3])

@@ -57,6 +57,7 @@ asked 'the mirror is asked once for each' 20 '^GET /tree/'
 clients 'the same again' crowd
 asked 'and not again for what is held' 20 '^GET /tree/'
 clients 'requests of one connection, in order' line
+clients 'a reply that closes, with more requests behind it' behind
 clients 'others are served beside those that stall' stalls
 refused 'another server at the folder' 5 serve --conf "$work/acng.conf" --cache "$work/cache"
 refused 'another server at the address' 4 serve --conf "$work/acng.conf" --cache "$work/other.cache"

@@ -61,7 +61,8 @@ IsThere s tells path label r f = PartIsThere s tells path label f.text (pick r (
 
 -- why a file's reply was cut behind its head: a cause that is lawful for what was asked, or a slip of the body's file
 abbrev pub IsCut : {S Q : Type 0} → SiteGhosts S → Asked → Cause Q → Type 0
-IsCut {S} {Q} s asked c = ((shown : Shown) × (c ≡ cause.Load shown) × CauseStands s asked shown) ⊎ ((slip : Q) × (c ≡ cause.KeeperSlip slip))
+IsCut {S} {Q} s asked c =
+    ((shown : Shown) × (c ≡ cause.Load shown) × CauseStands s asked shown) ⊎ ((slip : Q) × (c ≡ cause.KeeperSlip slip))
 
 -- the reply went out; or it was cut behind the head; or the link failed
 pub record EndsWhole {Q : Type 0} (a : Answer Q) (note : Note Q) (io : Sent) : Type 0 where

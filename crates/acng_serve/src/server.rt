@@ -20,7 +20,8 @@ use acng_fetch::Pool;
 use acng_keeper::{BodyFile, Keeper};
 use acng_site::{Origin, OriginSlip, Site};
 use std::alloc::Global;
-use std::net::{Net, TcpListener, TcpStream};
+use std::io::Read;
+use std::net::{Net, Shutdown, TcpListener, TcpStream};
 use std::sync::Wait;
 use std::sync::atomic::{AtomicU64, Ordering};
 use std::thread::Threads;
@@ -35,6 +36,11 @@ const MOST_SESSIONS: u64 = 64;
 
 /// How long a client is waited for, in seconds.
 const WAIT_SECONDS: u64 = 30;
+
+/// How long a connection that ends waits for more of the client, in seconds, and how many pieces of it are read at most.
+const END_SECONDS: u64 = 2;
+
+const END_PIECES: u32 = 64;
 
 /// Why a server ended.
 #[derive(Clone, Copy, Debug, PartialEq, Eq)]
@@ -179,19 +185,34 @@ where
     requires serves { S.tells ≡ true → ServesTargets house.now S.serves }
     requires honest { S.tells ≡ true → IsHonest S.Site }
 {
-    let Ok(output) = set_up(&stream) else {
+    if set_up(&stream).is_err() {
         return;
-    };
-    let mut client = StdLink::new(stream, output);
+    }
+    let mut client = StdLink::new(&stream, &stream);
     let mut clock = HostClock::new(rt);
     let _ = session(rt, alloc, house, origin, pool, &mut clock, &mut client);
+    let _ = end(&stream);
 }
 
-// Sets the limits of a connection, and gives it a second handle, which is written to.
-fn set_up(stream: &TcpStream) -> io::Result<TcpStream> {
+// Sets the limits of a connection.
+fn set_up(stream: &TcpStream) -> io::Result<()> {
     let limit = Some(Duration::from_secs(WAIT_SECONDS));
     stream.set_nodelay(true)?;
     stream.set_read_timeout(limit)?;
-    stream.set_write_timeout(limit)?;
-    stream.try_clone()
+    stream.set_write_timeout(limit)
+}
+
+// Ends a connection so that the client gets all that was written (RFC 9112, section 9.6). A close while bytes of the client
+// are unread would throw away what is still on its way. So the output ends first, and what the client has sent is read.
+fn end(stream: &TcpStream) -> io::Result<()> {
+    stream.shutdown(Shutdown::Write)?;
+    stream.set_read_timeout(Some(Duration::from_secs(END_SECONDS)))?;
+    let mut piece = [0u8; 16_384];
+    let mut input = stream;
+    for _ in 0..END_PIECES {
+        if input.read(&mut piece)? == 0 {
+            return Ok(());
+        }
+    }
+    Ok(())
 }
