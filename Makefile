@@ -1,5 +1,6 @@
-# `make run` builds the proved program and runs its main job once; `make test` is what `.ci/run` calls.
-.PHONY: run test pictures
+# `make run` builds the proved program and runs its main job once; `make test` is what `.ci/run` calls; `make deb` makes the
+# Debian package.
+.PHONY: run test deb pictures
 
 run:
 	bash tests/run_once.sh
@@ -22,6 +23,11 @@ test:
 	bash tests/debian_index.sh
 	bash tests/reach_table.sh
 	bash tests/expire_table.sh
+	bash tests/package.sh
+
+# packaging/out/acng_VERSION_amd64.deb
+deb:
+	bash packaging/build.sh
 
 # The pictures of docs/ARCHITECTURE.md, drawn by Graphviz from the text beside them.
 pictures:
