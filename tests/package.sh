@@ -72,10 +72,11 @@ for page in acng.8 acng.conf.5; do
 done
 if command -v systemd-analyze > /dev/null; then
     mkdir "$work/units"
-    sed "s|/usr/sbin/acng|$root/usr/sbin/acng|" "$root/usr/lib/systemd/system/acng.service" > "$work/units/acng.service"
-    holds 'the unit by systemd-analyze' systemd-analyze verify --man=no "$work/units/acng.service"
+    cp "$root"/usr/lib/systemd/system/* "$work/units"
+    sed -i "s|/usr/sbin/acng|$root/usr/sbin/acng|" "$work"/units/*.service
+    holds 'the units by systemd-analyze' systemd-analyze verify --man=no "$work"/units/*
 else
-    echo "$check: the unit: skipped, there is no systemd-analyze"
+    echo "$check: the units: skipped, there is no systemd-analyze"
 fi
 if command -v lintian > /dev/null; then
     lintian --fail-on error "$deb" > "$work/said" 2>&1
@@ -122,8 +123,9 @@ if [ -z "$as_root" ]; then
     owner=$(stat -c %u "$host_root/var/cache/acng")
     said 'the cache folder is that account'"'"'s' "$(grep -q "^_acng:[^:]*:$owner:" "$host_root/etc/passwd" && echo 0 || echo 1)" "$owner"
 fi
-said 'the service is enabled' "$([ -L "$host_root/etc/systemd/system/multi-user.target.wants/acng.service" ] && echo 0 || echo 1)" \
-    "$(ls -R "$host_root/etc/systemd" 2>&1 | tr '\n' ' ')"
+enabled=$(cd "$host_root/etc/systemd/system" && echo */*)
+wanted='multi-user.target.wants/acng.service timers.target.wants/acng-expire.timer'
+said 'the service and the timer are enabled' "$([ "$enabled" = "$wanted" ] && echo 0 || echo 1)" "$enabled"
 echo '# by the administrator' >> "$host_root/etc/acng/acng.conf"
 echo cached > "$host_root/var/cache/acng/b-0000000000000000"
 step 'install again' --install "$deb"
@@ -134,6 +136,6 @@ said 'the program is gone' "$([ ! -e "$host_root/usr/sbin/acng" ] && echo 0 || e
 step 'purge' --purge acng
 left > "$work/after"
 holds 'after a purge no file is left' diff "$work/before" "$work/after"
-folders=$(cd "$host_root" && find etc/acng var/cache/acng etc/systemd/system/acng.service -maxdepth 0 2> /dev/null | tr '\n' ' ')
+folders=$(cd "$host_root" && find etc/acng var/cache/acng etc/systemd/system/*/* -maxdepth 0 2> /dev/null | tr '\n' ' ')
 said 'and no folder of its own' "$([ -z "$folders" ] && echo 0 || echo 1)" "$folders"
 exit "$failed"
