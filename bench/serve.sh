@@ -17,7 +17,8 @@ echo "load of the machine: $(load)"
 
 # ---- a mirror, and the two servers over it
 
-mkdir "$work/site"
+# The program reads the files beside its configuration, so that has a folder of its own.
+mkdir "$work/site" "$work/conf" "$work/held_conf"
 head -c 8192 /dev/urandom > "$work/site/small.deb"
 head -c 8000000 /dev/urandom > "$work/site/slow.deb"
 head -c 100000000 /dev/urandom > "$work/site/large.deb"
@@ -35,8 +36,8 @@ wait_for() {
     exit 1
 }
 our_port=$(free_port)
-printf 'BindAddress: 127.0.0.1\nPort: %s\nRemap-m: /m ; http://127.0.0.1:%s\n' "$our_port" "$(cat "$work/port")" > "$work/acng.conf"
-"$program" serve --conf "$work/acng.conf" --cache "$work/cache" &
+printf 'BindAddress: 127.0.0.1\nPort: %s\nRemap-m: /m ; http://127.0.0.1:%s\n' "$our_port" "$(cat "$work/port")" > "$work/conf/acng.conf"
+"$program" serve --conf "$work/conf/acng.conf" --cache "$work/cache" &
 ours=$!
 wait_for "$our_port"
 servers="acng:$our_port"
@@ -120,9 +121,9 @@ for i in range(10000):
         out.write("acng-head 1\npath h/%d.deb\norigin fetched %d %d\nsize %d\nchecked 1000\nend\n" % (i, i, i, len(body)))
 END
 port=$(free_port)
-printf 'BindAddress: 127.0.0.1\nPort: %s\n' "$port" > "$work/held.conf"
+printf 'BindAddress: 127.0.0.1\nPort: %s\n' "$port" > "$work/held_conf/acng.conf"
 for _ in 1 2 3; do
-    python3 "$here/serve/ready.py" "$port" /h/9999.deb "$program" serve --conf "$work/held.conf" --cache "$work/held"
+    python3 "$here/serve/ready.py" "$port" /h/9999.deb "$program" serve --conf "$work/held_conf/acng.conf" --cache "$work/held"
     begun=$(date +%s%N)
     find "$work/held" -name 'h-*' -exec cat {} + > "$work/got"
     echo "cat $(( ($(date +%s%N) - begun) / 1000000 )) 0"
