@@ -67,16 +67,14 @@ done
 
 # ---- hits
 
-# hits NAME CONNECTIONS DEPTH FILE [WORD..]: a line for each server, and the words go to wrk
-hits() {
-    local name=$1 connections=$2 depth=$3 file=$4 server threads=1
-    shift 4
-    [ "$connections" = 1 ] || threads=2
+# alternate NAME COMMAND..: three runs of a command for each server, in turn, and a line for each
+alternate() {
+    local name=$1 server
+    shift
     for server in $servers; do forget "${server%:*}"; done
     for _ in 1 2 3; do
         for server in $servers; do
-            wrk -t "$threads" -c "$connections" -d 2 --timeout 20s -s "$here/serve/report.lua" "$@" \
-                "http://127.0.0.1:${server#*:}/m/$file.deb" -- "$depth" > "$work/run"
+            "$@" "${server#*:}" > "$work/run"
             echo "${server%:*} $(grep '^run' "$work/run")"
         done
     done > "$work/runs"
@@ -84,19 +82,28 @@ hits() {
         awk -v name="$name" -v server="${server%:*}" -v peak="$(peak "${server%:*}")" '
             $1 == server { count = 1e6 * $3 / $5; bytes = $4 / $5 / 1e3; failed += $6
                 if (count > most) most = count; if (bytes > more) more = bytes; if (!least || count < least) least = count }
-            END { printf "%-14s %-6s %7.0f requests/s (least %7.0f), %5.2f GB/s, failures %d, peak %d KB\n",
+            END { printf "%-12s %-5s %7.0f requests/s (least %6.0f), %5.2f GB/s, failures %d, peak %d KB\n",
                 name, server, most, least, more, failed, peak }' "$work/runs"
     done
 }
-hits keep-1 1 1 small
-hits keep-8 8 1 small
-hits keep-64 64 1 small
-hits new-1 1 1 small -H 'Connection: close'
-hits new-8 8 1 small -H 'Connection: close'
-hits pipelined-1 1 10 small
-hits pipelined-8 8 10 small
-hits large-1 1 1 large
-hits large-16 16 1 large
+small() {
+    local connections=$1 depth=$2 port=$3 threads=1
+    [ "$connections" = 1 ] || threads=2
+    wrk -t "$threads" -c "$connections" -d 2 -s "$here/serve/report.lua" -H "Connection: $kept" \
+        "http://127.0.0.1:$port/m/small.deb" -- "$depth"
+}
+large() { python3 "$here/serve/large.py" "$2" /m/large.deb "$1"; }
+kept=keep-alive
+alternate keep-1 small 1 1
+alternate keep-8 small 8 1
+alternate keep-64 small 64 1
+alternate pipelined-1 small 1 10
+alternate pipelined-8 small 8 10
+kept=close
+alternate new-1 small 1 1
+alternate new-8 small 8 1
+alternate large-1 large 1
+alternate large-16 large 16
 echo "load of the machine: $(load)"
 
 # ---- sixteen cold clients
