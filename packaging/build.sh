@@ -1,7 +1,7 @@
 #!/usr/bin/env bash
 # Makes the Debian package from the built program, the files of this folder and the documents: packaging/out/acng_VERSION_amd64.deb,
 # or in the folder that is named. The same sources give the same bytes: the version is that of `changelog`, and every date is
-# that of the last commit, or SOURCE_DATE_EPOCH.
+# that of the last commit, of the changelog where there is no git, or SOURCE_DATE_EPOCH.
 set -eu
 cd "$(dirname "$0")/.."
 umask 022
@@ -17,7 +17,8 @@ done
 [ -x "$program" ] || { echo "deb: the program isn't built; make run builds it"; exit 1; }
 
 version=$(sed -n '1s/^acng (\([^)]*\)).*/\1/p' "$here/changelog")
-SOURCE_DATE_EPOCH=${SOURCE_DATE_EPOCH:-$(git log -1 --format=%ct 2> /dev/null || date -d "$(sed -n 's/^ -- .*>  //p' "$here/changelog" | head -n 1)" +%s)}
+changed=$(sed -n 's/^ -- .*>  //p' "$here/changelog" | head -n 1)
+SOURCE_DATE_EPOCH=${SOURCE_DATE_EPOCH:-$(git log -1 --format=%ct 2> /dev/null || date -d "$changed" +%s)}
 export SOURCE_DATE_EPOCH
 
 work=$(mktemp -d)

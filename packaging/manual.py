@@ -4,8 +4,9 @@
 
 The frame is a man page. A line `@take FILE HEADING` stands for what is under that heading of that document,
 `@take FILE HEADING | FROM` for what is there from the line on that begins so, and `@take FILE HEADING | FROM | UNTIL` for what is
-there before the next line that begins so. `@commands FILE` stands for every section whose heading is a command. @VERSION@ and @DATE@ are filled in. Of Markdown this reads what the documents use: paragraphs, lists,
-tables, indented code, `code`, **bold** and links.
+there before the next line that begins so. `@commands FILE` stands for every section whose heading is a command. @VERSION@ and
+@DATE@ are filled in. Of Markdown this reads what the documents use: paragraphs, lists, tables, indented code, `code`, **bold** and
+links.
 """
 import re
 import sys
