@@ -18,7 +18,8 @@ holds() {
     shift
     "$@" > "$work/said" 2>&1
     status=$?
-    said "$name" "$([ "$status" = 0 ] && [ ! -s "$work/said" ] && echo 0 || echo 1)" "status $status; $(head -n 5 "$work/said" | tr '\n' ';')"
+    said "$name" "$([ "$status" = 0 ] && [ ! -s "$work/said" ] && echo 0 || echo 1)" \
+        "status $status; $(head -n 5 "$work/said" | tr '\n' ';')"
 }
 
 # ---- the package
@@ -44,7 +45,8 @@ holds 'the sums are those of the files' bash -c "cd '$root' && md5sum --quiet -c
 # ---- the program with its configuration
 
 "$root/usr/sbin/acng" check-conf --conf "$conf" > "$work/printed" 2>&1
-said 'check-conf' "$([ "$?" = 0 ] && [ "$(cat "$work/printed")" = 'ok groups 2 warnings 0' ] && echo 0 || echo 1)" "$(head -n 3 "$work/printed")"
+said 'check-conf' "$([ "$?" = 0 ] && [ "$(cat "$work/printed")" = 'ok groups 2 warnings 0' ] && echo 0 || echo 1)" \
+    "$(head -n 3 "$work/printed")"
 # The table of keys: each key stands in the configuration with its default, or commented out where that is nothing.
 sed -n '/^## The keys/,/^## /s/^| `\([A-Za-z]*\)` | .* | \(.*\) |$/\1 \2/p' docs/CONFIGURATION.md | tr -d '`' > "$work/keys"
 said 'the table has keys' "$([ "$(wc -l < "$work/keys")" -ge 11 ] && echo 0 || echo 1)" "$(wc -l < "$work/keys")"
@@ -121,7 +123,7 @@ account=$(grep -c '^_acng:.*:/var/cache/acng:/usr/sbin/nologin$' "$host_root/etc
 said 'one account, which cannot log in' "$([ "$account" = 1 ] && echo 0 || echo 1)" "$(cat "$host_root/etc/passwd")"
 if [ -z "$as_root" ]; then
     owner=$(stat -c %u "$host_root/var/cache/acng")
-    said 'the cache folder is that account'"'"'s' "$(grep -q "^_acng:[^:]*:$owner:" "$host_root/etc/passwd" && echo 0 || echo 1)" "$owner"
+    said 'the cache folder is of that account' "$(grep -q "^_acng:[^:]*:$owner:" "$host_root/etc/passwd" && echo 0 || echo 1)" "$owner"
 fi
 enabled=$(cd "$host_root/etc/systemd/system" && echo */*)
 wanted='multi-user.target.wants/acng.service timers.target.wants/acng-expire.timer'
@@ -129,7 +131,7 @@ said 'the service and the timer are enabled' "$([ "$enabled" = "$wanted" ] && ec
 echo '# by the administrator' >> "$host_root/etc/acng/acng.conf"
 echo cached > "$host_root/var/cache/acng/b-0000000000000000"
 step 'install again' --install "$deb"
-said 'the administrator'"'"'s change stays' "$(grep -q 'by the administrator' "$host_root/etc/acng/acng.conf" && echo 0 || echo 1)" 'it is gone'
+holds 'a change by the administrator stays' grep -q 'by the administrator' "$host_root/etc/acng/acng.conf"
 step 'remove' --remove acng
 holds 'configuration and cache stay' there etc/acng/acng.conf var/cache/acng/b-0000000000000000
 said 'the program is gone' "$([ ! -e "$host_root/usr/sbin/acng" ] && echo 0 || echo 1)" 'it is there'
