@@ -87,6 +87,48 @@ def crowd(port, host, folder):
     run([lambda number=number: one(number) for number in range(64)])
 
 
+FRAME = b"<!DOCTYPE html><html><head><title>acng report</title></head><body><pre>\n"
+
+
+def page_of(host, folder):
+    """The report page of a cache that holds the files, and nothing else."""
+    sizes = {"%s/tree/%s" % (host, name): len(bytes_of(folder, name)) for name in files(folder)}
+    lines = ["%s %d solid -" % (path, sizes[path]) for path in sorted(sizes)]
+    lines.append("rows %d bytes %d" % (len(sizes), sum(sizes.values())))
+    return FRAME + "\n".join(lines + ["</pre></body></html>", ""]).encode()
+
+
+def visit(port, name, target, status, wanted, bare=False):
+    """A request for the page, which closes a connection of its own."""
+    client = Client(port)
+    client.send("HEAD" if bare else "GET", target)
+    code, fields, body = client.reply(bare)
+    kind, length = fields.get("content-type"), fields.get("content-length")
+    if (code, body) != (status, b"" if bare else wanted) or length != str(len(wanted)):
+        print("%s: status %d, %s, %s, %r" % (name, code, kind, length, body[:300]))
+    if status == 200 and (kind != "text/html" or client.more()):
+        print("%s: %s, or more behind it" % (name, kind))
+
+
+# The page of what is held; a run of expiration needs leave.
+def page(port, host, folder):
+    wanted = page_of(host, folder)
+    visit(port, "the page", "/acng-report.html", 200, wanted)
+    visit(port, "its head", "/acng-report.html", 200, wanted, bare=True)
+    visit(port, "another query", "/acng-report.html?run=import", 200, wanted)
+    visit(port, "a run without leave", "/acng-report.html?run=expire", 403, b"403 Maint\n")
+
+
+# Runs of expiration by 20 clients at once, over a cache without an index: each is aborted, and changes nothing.
+def expire(port, host, folder):
+    held = Client(port).get("/acng-report.html")[2]
+    wanted = held.replace(FRAME, FRAME + b"aborted problems 1\n")
+    run([lambda: visit(port, "a run", "/acng-report.html?run=expire", 200, wanted)] * 20)
+    visit(port, "the page", "/acng-report.html", 200, held)
+    if b" solid -\n" not in held:
+        print("nothing is held: %r" % held[:300])
+
+
 # Requests of one connection, of which some are sent before the replies to others were read.
 def line(port, host, folder):
     name = files(folder)[0]
@@ -169,5 +211,6 @@ def after(port, host, folder):
     run([lambda number=number: one(number) for number in range(30)])
 
 
-CHECKS = {"crowd": crowd, "line": line, "behind": behind, "stalls": stalls, "loads": loads, "after": after}
+CHECKS = {"crowd": crowd, "line": line, "behind": behind, "stalls": stalls, "loads": loads, "after": after, "page": page,
+          "expire": expire}
 CHECKS[sys.argv[4]](int(sys.argv[1]), sys.argv[2], sys.argv[3])

@@ -124,9 +124,27 @@ line_of '403 Forbidden' '403 BadPath' > "$work/wanted"
 expect 'a path upwards' 1 "GET http://$host/../a.deb HTTP/1.1"
 line_of '403 Forbidden' '403 BadTarget' > "$work/wanted"
 expect 'a port that is none' 1 'GET http://localhost:0/a.deb HTTP/1.1'
-expect 'the report page, so far' 1 'GET /acng-report.html HTTP/1.1'
 line_of '403 Forbidden' '403 Forbidden' > "$work/wanted"
 expect 'a file of a class that is not passed on' 1 "GET http://$host/whole/readme HTTP/1.1"
+
+# The report page, and a run of expiration before it, which needs leave.
+front='<!DOCTYPE html><html><head><title>acng report</title></head><body><pre>'
+table='rows 0 bytes 0'
+end='</pre></body></html>'
+page_head() { head_of '200 OK' text/html "Content-Length: $1\r\n"; }
+{ page_head 108; printf '%s\n' "$front" "$table" "$end"; } > "$work/wanted"
+expect 'the report page' 0 'GET /acng-report.html HTTP/1.1'
+expect 'the report page, whatever else is asked' 0 'GET /acng-report.html?run=import HTTP/1.1'
+page_head 108 > "$work/wanted"
+expect 'HEAD of the report page' 0 'HEAD /acng-report.html HTTP/1.1'
+line_of '403 Forbidden' '403 Maint' > "$work/wanted"
+expect 'a run of expiration without leave' 1 'GET /acng-report.html?run=expire HTTP/1.1'
+printf 'MaintOverHttp: 1\n' > "$work/conf/acng.conf"
+conf="--conf $work/conf/acng.conf"
+{ page_head 132; printf '%s\n' "$front" 'done removed 0 marked 0' "$table" "$end"; } > "$work/wanted"
+expect 'a run of expiration' 0 'GET /acng-report.html?run=expire HTTP/1.1'
+conf=
+
 line_of '400 Bad Request' '400 BadHead' > "$work/wanted"
 expect 'a head with two blanks' 1 'GET  / HTTP/1.1'
 line_of '400 Bad Request' '400 HasBody' > "$work/wanted"

@@ -56,6 +56,7 @@ clients '64 clients for 20 files' crowd
 asked 'the mirror is asked once for each' 20 '^GET /tree/'
 clients 'the same again' crowd
 asked 'and not again for what is held' 20 '^GET /tree/'
+clients 'the report page tells of them' page
 clients 'requests of one connection, in order' line
 clients 'a reply that closes, with more requests behind it' behind
 clients 'others are served beside those that stall' stalls
@@ -68,8 +69,10 @@ sleep 0.5
 kill -9 "$server"
 wait "$server" 2> /dev/null
 wait "$loading"
+echo 'MaintOverHttp: 1' >> "$work/acng.conf"
 start_server
 clients 'after a kill in the middle of 30 downloads' after
+clients 'a run of expiration by many at once' expire
 clients 'and what was held before' crowd
 asked 'is held still' 20 '^GET /tree/'
 said 'the server says nothing' "$([ ! -s "$work/said" ] && echo 0 || echo 1)" "$(head -n 1 "$work/said")"

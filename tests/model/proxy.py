@@ -1,7 +1,8 @@
 """What the proxy answers, reckoned from its rules: the model that the program `acng_serve_table` is compared with.
 
 The rules are those of docs/FORMATS.md (configuration, targets, classes, requests, replies, answers of an origin), of the
-download as docs/ARCHITECTURE.md tells it, of RFC 9110 and RFC 9112. Nothing here was taken from what the program prints.
+download as docs/ARCHITECTURE.md tells it, of RFC 9110 and RFC 9112. What the indexes of a cache reach is the model of reach's
+(tests/model/reach.py). Nothing here was taken from what the program prints.
 The model reads whole texts where the program reads pieces, and has one list where the program has a keeper and a desk.
 
     proxy.py < SCRIPTS > EXPECTED
@@ -11,6 +12,8 @@ import hashlib
 import re
 import sys
 from urllib.parse import unquote_to_bytes, urljoin, urlsplit
+
+from reach import Reach
 
 NEVER = None
 MOST_HEAD = 16384
@@ -71,6 +74,7 @@ class Conf:
 
     def __init__(self, text):
         self.offline, self.fresh_age, self.redir_max, self.maint = False, 27, 5, False
+        self.days, self.most_problems = 4, 1
         self.solid = self.volatile = None
         self.page = "acng-report.html"
         self.refused = False
@@ -85,7 +89,8 @@ class Conf:
         value = value.strip(" \t")
         low = key.lower()
         numbers = {"offlinemode": ("offline", 0, 1), "freshindexmaxage": ("fresh_age", 0, 31536000),
-                   "redirmax": ("redir_max", 0, 15), "maintoverhttp": ("maint", 0, 1), "port": ("port", 1, 65535)}
+                   "redirmax": ("redir_max", 0, 15), "maintoverhttp": ("maint", 0, 1), "port": ("port", 1, 65535),
+                   "exthreshold": ("days", 0, 36500), "exabortonproblems": ("most_problems", 0, 1000000)}
         if low in numbers:
             name, least, most = numbers[low]
             if not re.fullmatch(r"\d{1,9}", value) or not least <= int(value) <= most:
@@ -156,6 +161,10 @@ class Refused(Exception):
     """A request that gets a line: its cause."""
 
 
+class Visit(Exception):
+    """A request for the report page: its query."""
+
+
 def path_of(text):
     """A path of the cache, or why the text is none."""
     if not text:
@@ -182,8 +191,7 @@ def read_target(conf, method, target):
         raise Refused("Tls")
     page = "/" + conf.page
     if target == page or target.startswith(page + "?"):
-        # There is no report page yet: it is refused as no target.
-        raise Refused("BadTarget")
+        raise Visit(target[len(page) + 1:])
     if not (low.startswith("http://") or target.startswith("/")) or "#" in target:
         raise Refused("BadTarget")
     if "?" in target:
@@ -549,6 +557,12 @@ class Keeper:
 class Whole:
     def __init__(self, text, label, modified, tag, checked):
         self.text, self.label, self.modified, self.tag, self.checked = text, label, modified, tag, checked
+        self.mark = None
+
+    def marked(self, mark):
+        whole = Whole(self.text, self.label, self.modified, self.tag, self.checked)
+        whole.mark = mark
+        return whole
 
 
 class Partial:
@@ -622,7 +636,7 @@ class Desk:
                     self.keeper.call()
             elif body.stage == "Same":
                 self.keeper.call()
-                row.whole = Whole(body.text, body.label, body.modified, body.tag, now)
+                row.whole = Whole(body.text, body.label, body.modified, body.tag, now).marked(whole_before.mark)
                 self.keeper.heads[path] = row.whole
                 self.keeper.call()
             elif body.stage == "Cut" and body.tag and body.total is not None and body.text \
@@ -740,6 +754,82 @@ class Desk:
                 body.shown = cause_of(reading, slip, number)
                 if reading.outcome == "Bad":
                     return body
+
+
+# ---- what is held: its table, and a run of expiration
+
+def held_in(desk):
+    return sorted(path for path, row in desk.rows.items() if row.whole)
+
+
+def class_word(conf, path):
+    try:
+        return class_of(conf, path)
+    except Refused:
+        return "forbidden"
+
+
+def table(desk):
+    lines, total = [], 0
+    for path in held_in(desk):
+        whole = desk.rows[path].whole
+        total += len(whole.text)
+        mark = "-" if whole.mark is None else "%d" % whole.mark
+        lines.append("%s %d %s %s\n" % (path, len(whole.text), class_word(desk.conf, path), mark))
+    return "".join(lines) + "rows %d bytes %d\n" % (len(lines), total)
+
+
+def page(desk, first):
+    text = table(desk).replace("&", "&amp;").replace("<", "&lt;").replace(">", "&gt;")
+    return ("<!DOCTYPE html><html><head><title>acng report</title></head><body><pre>\n" + (first + "\n" if first else "")
+            + text + "</pre></body></html>\n").encode()
+
+
+def expire(desk, now):
+    """A run: its line, and the call of the keeper that failed in it. An index costs a fetch and a read, and lists none here."""
+    keeper, removed = desk.keeper, 0
+    reach = Reach({path: desk.rows[path].whole.text.decode("latin-1") for path in held_in(desk)}, [])
+    try:
+        for path in held_in(desk):
+            if reach.is_current(path):
+                keeper.call()
+                keeper.call()
+        if desk.conf.most_problems >= 1 and len(reach.problems) >= desk.conf.most_problems:
+            return "aborted problems %d" % len(reach.problems), None
+        for path in held_in(desk):
+            row = desk.rows[path]
+            old = row.whole.mark
+            mark = None if path in reach.reached else now if old is None else min(old, now)
+            if mark != old:
+                keeper.call()
+                row.whole = row.whole.marked(mark)
+                keeper.heads[path] = row.whole
+        for path in held_in(desk):
+            mark = desk.rows[path].whole.mark
+            if mark is None or not (now > mark and now - mark > 86400 * desk.conf.days):
+                continue
+            del desk.rows[path]
+            keeper.call()
+            del keeper.heads[path]
+            keeper.call()
+            removed += 1
+        return "done removed %d marked %d" % (removed, sum(desk.rows[path].whole.mark is not None for path in held_in(desk))), None
+    except Slip as slip:
+        return "stopped removed %d" % removed, slip.call
+
+
+def visit(desk, query, moment, close, bare):
+    """The reply to a request for the report page. The connection closes behind a page."""
+    if query != "run=expire":
+        first, cause = "", "Page 0"
+    elif not desk.conf.maint:
+        return line_reply("Maint", close, bare)
+    else:
+        first, slip = expire(desk, moment)
+        cause = "Page its line at %d" % moment + ("" if slip is None else " slip %d" % slip)
+    text = page(desk, first)
+    head = head_text(200, "text/html", "Content-Length: %d" % len(text), [], True)
+    return Reply(200, cause, head, b"" if bare else text, True)
 
 
 def cause_of(reading, slip, attempt):
@@ -936,6 +1026,8 @@ def answer(desk, mirror, request, moment, last):
         path, origins = read_target(desk.conf, request.method, request.target)
         kind = class_of(desk.conf, path)
         how, first, old = desk.begin(path, kind, moment)
+    except Visit as asked:
+        return visit(desk, str(asked), moment, close, bare)
     except Refused as refused:
         return line_reply(str(refused), close, bare)
     except Slip as slip:
@@ -1001,7 +1093,7 @@ def once_status(stop, cause, whole):
         return 4
     if name[0] == "KeeperSlip" or name[:2] == ["Load", "Keeper"]:
         return 5
-    return 0 if name[0] in ("Served", "NotModified", "NoPart") and whole else 1
+    return 0 if name[0] in ("Served", "Page", "NotModified", "NoPart") and whole else 1
 
 
 # ---- scripts

@@ -129,8 +129,6 @@ def rows():
            "connection 1000\n", request("/h/a.deb"), request("/h/a.deb"))
     script("an answer that ends early", asked("http://h/a.deb", answer("abc", "Content-Length: 4", length=False), 0, 0),
            "once 1000\n", request("/h/a.deb"), "connection 1000\n", request("/h/a.deb"))
-    script("the report page isn't built", "conf MaintOverHttp: 1\n", "connection 1000\n", request("/acng-report.html"),
-           request("/acng-report.html?run=expire"), request("/acng-report.html", method="HEAD"))
 
 
 # ---- each cause, and each status of a run
@@ -200,6 +198,77 @@ def causes():
     script("empty lines before the request", "connection 1000\n", "+\\r\\n\\n\\r\\n\n", request("/h/readme"), "+\\n\\r\\n\n")
     script("a configuration that is refused", "conf Port: 70000\n", "once 1000\n", ask)
     script("nothing is sent", "once 1000\n", "connection 1000\n")
+
+
+# ---- the report page
+
+PAGE, RUN, LEAVE = "/acng-report.html", "/acng-report.html?run=expire", "conf MaintOverHttp: 1\n"
+INDEX = "h/debian/dists/s/InRelease"
+DAY = 86400
+
+
+def index(*names):
+    """An index that names files of three bytes."""
+    entries = "".join("+ %s 3 %s\\n\n" % ("ab" * 32, name) for name in names)
+    text = "+-----BEGIN PGP SIGNED MESSAGE-----\\n\n+\\n\n+SHA256:\\n\n" + entries + "+-----BEGIN PGP SIGNATURE-----\\n\n"
+    size = sum(len(line) - 2 for line in text.split("\n") if line)
+    return head(["HTTP/1.1 200 OK", "Content-Length: %d" % size]) + text
+
+
+def one(moment, target, *fields, **how):
+    """A connection of one request: a page closes the connection."""
+    return "connection %d\n" % moment + request(target, *fields, **how)
+
+
+def pages():
+    for how, words in (("connection", "connection 1000\n"), ("run of once", "once 1000\n")):
+        ask = [PAGE, PAGE + "?", PAGE + "?run=import", PAGE + "?run=Expire", PAGE + "?run=expire&x", RUN]
+        script("a report of nothing by a " + how, "".join(words + request(target) for target in ask))
+        script("a report of nothing with leave by a " + how, LEAVE, "".join(words + request(target) for target in ask))
+        script("a report of nothing to HEAD by a " + how, LEAVE,
+               "".join(words + request(target, method="HEAD") for target in (PAGE, RUN)))
+    script("a report without leave to HEAD", one(1000, RUN, method="HEAD"))
+    script("a page closes", LEAVE, "connection 1000\n", request("/h/readme"), request(PAGE), request("/h/readme"),
+           "connection 1000\n", request(RUN), request("/h/readme"), "connection 1000\n", request(PAGE, method="HEAD"), request("/h/readme"),
+           "conf MaintOverHttp: 0\n", "once 1000\n", request(RUN))
+    script("a run without leave doesn't close", "connection 1000\n", request(RUN), request(PAGE))
+    script("a page of a client before this HTTP", one(1000, PAGE, version="1.0"))
+    script("a page is asked for by a range and a date",
+           one(1000, PAGE, "Range: bytes=2-3"), one(1000, PAGE, "If-Modified-Since: " + DATE))
+    script("a page at another name", "conf ReportPage: r.html\n", one(1000, PAGE), one(1000, "/r.html"), one(1000, "/r.html?x"),
+           one(1000, "/r.htmlx"))
+    odd = "/h/a&b<c>d.deb"
+    files = asked("http://h/a&b%3Cc%3Ed.deb", answer("abc")) + asked("http://h/InRelease", answer("x")) + asked("http://h/readme",
+            answer("four"))
+    script("a report of odd names", "conf VfilePatternEx: readme$\n", files, "once 1000\n", request(odd), "once 1000\n",
+           request("/h/readme"), "once 1000\n", request("/h/InRelease"), one(1000, PAGE), "conf VfilePatternEx: x$\n", "once 1000\n",
+           request(PAGE))
+    script("a cache without an index aborts a run", LEAVE, files, one(1000, odd), one(1000, RUN), one(9 * DAY, RUN), one(9 * DAY, PAGE))
+    script("an index that doesn't read aborts a run", LEAVE, files, "connection 1000\n", request(odd), request("/h/InRelease"),
+           one(1000, RUN), "once 9999999\n", request(RUN))
+    script("a run in spite of problems", LEAVE, "conf ExAbortOnProblems: 2\n", files, one(1000, odd), one(1000, RUN), one(1001, PAGE))
+    held = asked("http://h/debian/dists/s/InRelease", index("x/a.deb")) + "".join(
+        asked("http://h/debian/" + name, answer(text), 0, 999) for name, text in
+        (("dists/s/x/a.deb", "abc"), ("b.deb", "abcd"), ("c.deb", "abcde")))
+    load = "once 1000\n".join(["", request("/" + INDEX), request("/h/debian/dists/s/x/a.deb"), request("/h/debian/b.deb")])
+    script("a run marks, and removes later", LEAVE, held, load, one(1000, PAGE), one(2000, RUN), one(2000 + 4 * DAY, RUN),
+           one(3000, PAGE), one(2001 + 4 * DAY, RUN), one(3000, PAGE), one(3000, "/h/debian/b.deb"), one(3000, PAGE))
+    script("a file that came between runs is marked anew", LEAVE, held, load, one(1000, RUN), one(1000, "/h/debian/c.deb"),
+           one(2000, RUN), one(1001 + 4 * DAY, RUN), one(2001 + 4 * DAY, RUN))
+    script("a clock goes back between runs", LEAVE, held, load, one(2000, RUN), one(1500, RUN), one(1501 + 4 * DAY, RUN))
+    script("a run after no day", LEAVE, "conf ExThreshold: 0\n", held, load, one(1000, RUN), one(1000, RUN), one(1001, RUN))
+    script("runs of once", LEAVE, held, load, "".join("once %d\n%s" % (now, request(target)) for now, target in
+           ((1000, RUN), (1000, PAGE), (1001 + 4 * DAY, RUN), (1001 + 4 * DAY, PAGE))))
+    script("calls of the keeper, in runs", "vary keeper 0 40\n", LEAVE, held, load + "once 1000\n" + request("/h/debian/c.deb"),
+           one(1000, RUN), one(1000, PAGE), one(1001 + 4 * DAY, RUN), one(3000, PAGE))
+    script("calls of the keeper, in runs of once", "sweep keeper 0 60\n", LEAVE, held, load + "once 1000\n" + request("/h/debian/c.deb"),
+           "".join("once %d\n%s" % (now, request(target)) for now, target in
+                   ((1000, RUN), (1000, PAGE), (1001 + 4 * DAY, RUN), (1001 + 4 * DAY, PAGE))))
+    script("calls of the link, in a page", "sweep link 0 260\n", "cut 1\n", "connection 1000\n", request(PAGE))
+    script("calls of the link, in a run", "sweep link 0 300\n", LEAVE, held, load, "cut 1\n", "connection 1000\n", request(RUN))
+    script("some calls of the link, in a run", "vary link 60 70\n", LEAVE, held, load, one(1000, RUN), "cut 1\n", one(1001 + 4 * DAY, RUN))
+    script("room of the link, in a page", "".join("room %d\nconnection 1000\n%s" % (room, request(PAGE))
+                                                  for room in (0, 1, 92, 93, 94, 95, 96, 200, 201, 202, 203)))
 
 
 # ---- each call that may fail, in turn
@@ -417,6 +486,7 @@ def scripts_of_connections():
 def main():
     rows()
     causes()
+    pages()
     failures()
     parts()
     connections()

@@ -1,5 +1,6 @@
--- Only a file's reply has a status of one, so its request names a file.
+-- Only the reply of a file or a page has a status of one, so its request names a file or the page.
 use Rattle.std.proofs.Common.{◌≡◌, ◌<◌, ◌⊎◌, inl, inr, ℕ, Bool, List, Option, None, Ok, Err, refl, ap, arith}
+use Rattle.acng_base.specs.declared.clock.Moment.{Moment}
 use Rattle.acng_site.specs.declared.site.Site.{Ghosts as SiteGhosts}
 use Rattle.acng_head.specs.declared.head.Label.{Label}
 use Rattle.acng_conf.specs.Settings.{Settings}
@@ -58,16 +59,19 @@ module _ {Q : Type 0} (m : Manner) (note : Note Q) (io : Sent) (status : IsFileS
   not_lined c label entry (inl gives) = refused (line_or (line_of c)) (ap (λ n. n.status) gives.0)
   not_lined c label entry (inr broke) = refused (line_or (line_of c)) broke.status
 
-  module _ {S : Type 0} (s : SiteGhosts S) (tells : Bool) (conf : Settings) (r : Request) where
-    by_reading : (t : Reading) → ByTarget s tells conf m r note io t
-        → (path : List ℕ) × (origins : List (List ℕ)) × (t ≡ Ok (File path origins))
-    by_reading (Err fault) gives = absurd (not_lined (target_cause fault) None None gives)
-    by_reading (Ok (Page query)) gives = absurd (not_lined cause.BadTarget None None gives)
-    by_reading (Ok (File path origins)) gives = (path, origins, refl)
+  module _ {S : Type 0} (s : SiteGhosts S) (tells : Bool) (conf : Settings) (r : Request) (now : Moment) where
+    abbrev Names : Reading → Type 0
+    Names t = ((path : List ℕ) × (origins : List (List ℕ)) × (t ≡ Ok (File path origins))) ⊎ ((query : List ℕ) × (t ≡ Ok (Page query)))
 
-    -- the target of a lawful note with such a status names a file
-    pub names_file : IsLawfulNote s tells conf m r note io
-        → (path : List ℕ) × (origins : List (List ℕ)) × (reading conf r.method r.target ≡ Ok (File path origins))
+    by_reading : (t : Reading) → ByTarget s tells conf m r now note io t → Names t
+    by_reading (Err fault) gives = absurd (not_lined (target_cause fault) None None gives)
+    by_reading (Ok (Page query)) gives = inr (query, refl)
+    by_reading (Ok (File path origins)) gives = inl (path, origins, refl)
+
+    -- the target of a lawful note with such a status names a file, or the page
+    pub names_file : IsLawfulNote s tells conf m r now note io
+        → ((path : List ℕ) × (origins : List (List ℕ)) × (reading conf r.method r.target ≡ Ok (File path origins)))
+        ⊎ ((query : List ℕ) × (reading conf r.method r.target ≡ Ok (Page query)))
     names_file (inl gives) = by_reading (reading conf r.method r.target) gives
     names_file (inr (inl slip)) = absurd (not_lined (cause.KeeperSlip slip.slip) None None slip.gives)
     names_file (inr (inr lacks)) = absurd (not_lined cause.NoMemory None None lacks)

@@ -15,7 +15,7 @@ use Rattle.acng_serve.specs.declared.note.Note.{Note}
 use Rattle.acng_serve.specs.Notes.{LinkTold}
 use Rattle.acng_cli.specs.declared.once.Once.{Once}
 use Rattle.acng_cli.specs.declared.once.OnceStop.TheVariants as stop
-use Rattle.acng_cli.specs.Once.{Outside, Replied, Answered, Lined, EndsUnread, IsHindered, IsFileStatus, SendsFileOf, RanOnce}
+use Rattle.acng_cli.specs.Once.{Outside, Replied, Answered, Lined, EndsUnread, IsHindered, IsFileStatus, SendsFileOf, AsksPage, RanOnce}
 use Rattle.acng_cli.proofs.FileNotes.{not_lined, names_file}
 use Rattle.acng_cli.proofs.Cases.{if_also}
 
@@ -50,7 +50,8 @@ module _ {S L Q : Type 0} (s : SiteGhosts S) (tells : Bool) (l : LinkGhosts L) (
   left = l.left old.client
 
   abbrev Headline : Type 0
-  Headline = s.tells ≡ true → tells ≡ true → (note : Note Q) → once.note ≡ Some note → IsFileStatus note.status → SendsFileOf s l conf note old new
+  Headline = s.tells ≡ true → tells ≡ true → (note : Note Q) → once.note ≡ Some note → IsFileStatus note.status
+      → SendsFileOf s l conf note old new ⊎ AsksPage l conf old
 
   -- where no reply was made, or that of a line, none is a file's
   unnoted : once.note ≡ None → Headline
@@ -92,18 +93,21 @@ module _ {S L Q : Type 0} (s : SiteGhosts S) (tells : Bool) (l : LinkGhosts L) (
         let given = a.replied.noted in
         let same : a.note ≡ note = cc in
         let own = subst (λ n. IsFileStatus n.status) (sym same) status in
-        let file = names_file (manner_of true r) a.note a.io own s tells conf r a.answers.at.lawful in
-        subst (λ n. SendsFileOf s l conf n old new) same
-        (record {
-          request = r;
-          asked = is;
-          path = file.0;
-          origins = file.1;
-          target = file.2;
-          io = a.io;
-          since = a.replied.since;
-          sends = λ get. a.answers.at.sends st kt file.0 file.1 file.2 get own;
-        })
+        let named = names_file (manner_of true r) a.note a.io own s tells conf r a.answers.now a.answers.at.lawful in
+        elim named [
+          | inl file ↦ inl (subst (λ n. SendsFileOf s l conf n old new) same
+              (record {
+                request = r;
+                asked = is;
+                path = file.0;
+                origins = file.1;
+                target = file.2;
+                io = a.io;
+                since = a.replied.since;
+                sends = λ get. a.answers.at.sends st kt file.0 file.1 file.2 get own;
+              }))
+          | inr page ↦ inr (record { request = r; asked = is; query = page.0; target = page.1 })
+        ]
 
     pub ran_answered : RanOnce s tells l conf old new once
     ran_answered = let rest = rest_in r left is in record { asks = Asks r rest.0; told = rest.1; runs = inl a; headline = of_answer }

@@ -10,7 +10,7 @@ use Rattle.acng_request.specs.declared.got.Request.{Request}
 use Rattle.acng_request.specs.declared.got.HeadFault.{HeadFault}
 use Rattle.acng_desk.specs.House.{House}
 use Rattle.acng_remap.specs.Readings.{reading}
-use Rattle.acng_remap.specs.declared.target.Target.TheVariants.{File}
+use Rattle.acng_remap.specs.declared.target.Target.TheVariants.{File, Page}
 use Rattle.acng_reply.specs.Manners.{is_head, manner_of, unread}
 use Rattle.acng_reply.specs.Replies.{Sent}
 use Rattle.acng_serve.specs.declared.note.Cause.{Cause}
@@ -98,7 +98,7 @@ RunsBy s tells l conf Ends once old new = EndsUnread l once old new
 
 -- ---- the headline
 
--- the statuses of a reply that sends of a file
+-- the statuses of a reply that sends of a file; that of a page is one of them
 abbrev pub IsFileStatus : ℕ → Type 0
 IsFileStatus status = (status ≡ 200) ⊎ (status ≡ 206)
 
@@ -115,6 +115,13 @@ pub record SendsFileOf {S L Q : Type 0} (s : SiteGhosts S) (l : LinkGhosts L) (c
   pub since : SentSince l old.client new.client io
   pub sends : is_head request ≡ false → SendsFile s path (manner_of true request) request note io
 
+-- the client's bytes ask a request, where they are known, and its target reads as the report page
+pub record AsksPage {L : Type 0} (l : LinkGhosts L) (conf : Settings) (old : Outside L) : Type 0 where
+  pub request : Request
+  pub asked : IfSome (l.left old.client) (λ bytes. (rest : List ℕ) × (next bytes ≡ Asks request rest))
+  pub query : List ℕ
+  pub target : reading conf request.method request.target ≡ Ok (Page query)
+
 -- ---- a run
 
 pub record RanOnce {S L Q : Type 0} (s : SiteGhosts S) (tells : Bool) (l : LinkGhosts L) (conf : Settings) (old new : Outside L)
@@ -124,6 +131,6 @@ pub record RanOnce {S L Q : Type 0} (s : SiteGhosts S) (tells : Bool) (l : LinkG
   pub told : IfSome (l.left old.client) (λ bytes. asks ≡ next bytes)
   -- the run does what they ask, unless it is hindered
   pub runs : RunsBy s tells l conf asks once old new ⊎ IsHindered l once old new
-  -- a file's reply sends of one file, as one attempt found it or an import has it
+  -- a reply with such a status sends of one file, as one attempt found it or an import has it, unless the page is asked for
   pub headline : s.tells ≡ true → tells ≡ true → (note : Note Q) → once.note ≡ Some note → IsFileStatus note.status
-      → SendsFileOf s l conf note old new
+      → SendsFileOf s l conf note old new ⊎ AsksPage l conf old

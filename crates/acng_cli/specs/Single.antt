@@ -50,13 +50,14 @@ shown_status (shown.Gone attempt) = 1
 shown_status (shown.Keeper mark) = 5
 shown_status shown.NoMemory = 6
 
--- 0 where all of a file's reply went out, or the reply that nothing is to be sent of it
+-- 0 where all of a file's reply or of the report page went out, or the reply that nothing is to be sent of a file
 abbrev pub sent_status : Bool → ℕ
 sent_status true = 0
 sent_status false = 1
 
 abbrev pub cause_status : {Q : Type 0} → Cause Q → Bool → ℕ
 cause_status cause.Served whole = sent_status whole
+cause_status (cause.Page page run) whole = sent_status whole
 cause_status cause.NotModified whole = sent_status whole
 cause_status (cause.NoPart from total) whole = sent_status whole
 cause_status (cause.Head fault) whole = 1

@@ -5,7 +5,7 @@
 
 /// What was asked for was done.
 pub const DONE: u8 = 0;
-/// The reply says why no file was sent whole.
+/// The reply says why neither a file nor the report page was sent, or wasn't sent whole.
 pub const REFUSED: u8 = 1;
 /// The words aren't read, or name a command that isn't built.
 pub const WORDS: u8 = 2;

@@ -26,7 +26,9 @@ Offlinemode: 1^9999^GET http://a/y.deb HTTP/1.1^1^HTTP/1.1 503 Service Unavailab
 ^1000^GET http://b/x.deb HTTP/1.1^1^HTTP/1.1 502 Bad Gateway^502 Origin\n|\
 ^1000^GET http://a/readme HTTP/1.1^1^HTTP/1.1 403 Forbidden^403 Forbidden\n|\
 ^1000^GET https://a/x.deb HTTP/1.1^1^HTTP/1.1 403 Forbidden^403 Tls\n|\
-^1000^GET /acng-report.html HTTP/1.1^1^HTTP/1.1 403 Forbidden^403 BadTarget\n|\
+^1000^GET /acng-report.html HTTP/1.1^0^HTTP/1.1 200 OK^<!DOCTYPE html><html><head><title>acng report</title></head><body><pre>\n\
+a/InRelease 3 volatile -\na/x.deb 3 solid -\nrows 2 bytes 6\n</pre></body></html>\n|\
+^1000^GET /acng-report.html?run=expire HTTP/1.1^1^HTTP/1.1 403 Forbidden^403 Maint\n|\
 ^1000^POST /a/x.deb HTTP/1.1^1^HTTP/1.1 405 Method Not Allowed^405 Method\n|\
 ^1000^GET  / HTTP/1.1^1^HTTP/1.1 400 Bad Request^400 BadHead\n";
 

@@ -1,6 +1,6 @@
 -- What a call that answers one request gives, by the way that its target leads.
 use Rattle.std.proofs.Common.{◌≡◌, ◌≢◌, inl, inr, ◌⊎◌, ℕ, Bool, true, false, List, Option, Some, None, Ok, Err}
-use Rattle.std.proofs.Common.{refl, ap, sym, subst, ◌∙◌}
+use Rattle.std.proofs.Common.{IfSome, refl, ap, sym, subst, ◌∙◌}
 use Rattle.acng_base.specs.declared.clock.Moment.{Moment}
 use Rattle.acng_site.specs.declared.site.Site.{Ghosts as SiteGhosts}
 use Rattle.acng_conf.specs.Settings.{Settings}
@@ -27,13 +27,15 @@ use Rattle.acng_serve.specs.declared.note.Cause.TheVariants as cause
 use Rattle.acng_serve.specs.declared.note.Note.{Note}
 use Rattle.acng_serve.specs.Causes.{brim_cause, target_cause, is_slip}
 use Rattle.acng_serve.specs.Notes.{Gives, lined, found, is_free}
-use Rattle.acng_serve.specs.Answered.{World, world_of, held_seen, entry_at, answered_as, by_target, by_class, by_case, by_whole}
-use Rattle.acng_serve.specs.Answers.{AnswersAt, AfterAny, SettledAny}
+use Rattle.acng_serve.specs.Answered.{World, Answered, world_of, held_seen, entry_at, answered_as, by_target, by_visit, by_class, by_case, by_whole}
+use Rattle.acng_serve.specs.Answers.{AnswersAt, AfterAny, SettledAny, VisitsBy}
 use Rattle.acng_serve.specs.Files.{AnswersCase, AnswersFile, AnswersSlip, Leaves}
 use Rattle.acng_serve.specs.Headline.{SendsFile, SendsFiles}
-use Rattle.acng_serve.specs.Lawful.{IsLawfulNote, ByTarget, ByClass, FileNote, BrimNote}
-use Rattle.acng_serve.specs.Ways.{LeadsToFile, refusal_of, class_refusal}
+use Rattle.acng_serve.specs.Lawful.{IsLawfulNote, ByTarget, ByVisit, ByClass, FileNote, BrimNote}
+use Rattle.acng_serve.specs.Pages.{Visit, Shows, Runs, Forbids, Visits, visit_of}
+use Rattle.acng_serve.specs.Ways.{LeadsToFile, refusal_of, visit_refusal, class_refusal}
 use Rattle.acng_serve.proofs.Exact.{exact_file}
+use Rattle.acng_serve.proofs.Expiring.{not_begun}
 use Rattle.acng_serve.proofs.FileNotes.{held_note, loaded_note}
 use Rattle.acng_serve.proofs.Filing.{line_moment}
 use Rattle.acng_serve.proofs.Frees.{lack_free, slip_free, line_slip, file_slip}
@@ -41,6 +43,11 @@ use Rattle.acng_serve.proofs.Headlines.{sends_file, no_file}
 
 same_path : (p q : List ℕ) (o l : List (List ℕ)) → ◌≡◌ {A = Reading} (Ok (File p o)) (Ok (File q l)) → p ≡ q
 same_path p q o l e = cc
+
+-- what holds of every answer
+pub on_any : {A : Type 0} (P : A → Type 0) (o : Option A) → ((a : A) → P a) → IfSome o P
+on_any P None f = tt
+on_any P (Some a) f = f a
 
 -- as it was
 after_same : {S : Type 0} (s : SiteGhosts S) (o : Option (List ℕ × List (List ℕ))) (now : Moment) (old new : House) → new.plain ≡ old.plain
@@ -56,17 +63,29 @@ module _ {S Q : Type 0} (s : SiteGhosts S) (tells : Bool) (conf : Settings) (m :
   -- ---- refusals
 
   -- want of memory
-  pub lacks : Gives (lined m cause.NoMemory None None) note io → new.plain ≡ old.plain → Later old.faults new.faults
+  lacks_visit : (v : Visit) → Gives (lined m cause.NoMemory None None) note io → new ≡ old → Visits tells m now old new note io v
+  lacks_visit Shows g same = record { gives = inr g; same = same }
+  lacks_visit Runs g same = inr (record { gives = g; ended = not_begun tells now old new same })
+  lacks_visit Forbids g same = tt
+
+  lacks_target : (t : Reading) → Gives (lined m cause.NoMemory None None) note io → new ≡ old
+      → VisitsBy tells conf m now old new note io t
+  lacks_target (Err fault) g same = tt
+  lacks_target (Ok (Page query)) g same = lacks_visit (visit_of conf query) g same
+  lacks_target (Ok (File path origins)) g same = tt
+
+  pub lacks : Gives (lined m cause.NoMemory None None) note io → new ≡ old → Later old.faults new.faults
       → AnswersAt s tells conf m r now old new note io
   lacks g same later = record {
     exact = λ t free. let e : true ≡ false = sym (lack_free m cause.NoMemory note io refl g) ∙ free in absurd (cc);
+    page = lacks_target (reading conf r.method r.target) g same;
     lawful = inr (inr g);
     sends = λ t k. no_file s conf m r cause.NoMemory note io g;
     settles = λ free. let e : true ≡ false = sym (lack_free m cause.NoMemory note io refl g) ∙ free in absurd (cc);
-    leaves = after_same s (answered_as {Q = Q} conf m w r).loads now old new same;
+    leaves = on_any _ (answered_as {Q = Q} conf m w r) (λ a. after_same s a.loads now old new (ap (λ h. h.plain) same));
     moment = line_moment m cause.NoMemory note io now g;
     slip = λ is whole. absurd (line_slip m cause.NoMemory note io refl g is);
-    later = later;
+    later = on_any _ (answered_as {Q = Q} conf m w r) (λ a. later);
   }
 
   -- a file that isn't passed on
@@ -80,17 +99,24 @@ module _ {S Q : Type 0} (s : SiteGhosts S) (tells : Bool) (conf : Settings) (m :
       let h = subst (λ x. Gives (lined m x None None) note io) (sym k) g in
       (h, h)
 
-  -- what leads to no file
+  -- a run that isn't allowed
+  visit_gives : (c : Cause Q) (v : Visit) → visit_refusal v ≡ Some c → Gives (lined m c None None) note io
+      → IfSome (by_visit m v) (λ a. Gives a.answer note io) × ByVisit tells m now note io v
+  visit_gives c Shows e g = let k : None ≡ Some c = e in absurd (cc)
+  visit_gives c Runs e g = let k : None ≡ Some c = e in absurd (cc)
+  visit_gives c Forbids e g =
+      let k : cause.Maint ≡ c = cc in
+      let h = subst (λ x. Gives (lined m x None None) note io) (sym k) g in
+      (h, h)
+
+  -- what leads nowhere
   target_gives : (c : Cause Q) (t : Reading) → refusal_of conf t ≡ Some c → Gives (lined m c None None) note io
-      → Gives (by_target conf m w r t).answer note io × ByTarget s tells conf m r note io t
+      → IfSome (by_target conf m w r t) (λ a. Gives a.answer note io) × ByTarget s tells conf m r now note io t
   target_gives c (Err fault) e g =
       let k : target_cause fault ≡ c = cc in
       let h = subst (λ x. Gives (lined m x None None) note io) (sym k) g in
       (h, h)
-  target_gives c (Ok (Page query)) e g =
-      let k : cause.BadTarget ≡ c = cc in
-      let h = subst (λ x. Gives (lined m x None None) note io) (sym k) g in
-      (h, h)
+  target_gives c (Ok (Page query)) e g = visit_gives c (visit_of conf query) e g
   target_gives c (Ok (File path origins)) e g = class_gives c path origins (class_of conf.pfile_pattern conf.vfile_pattern path) e g
 
   fault_slip : (f : TargetFault) → is_slip (target_cause {Q = Q} f) ≡ false
@@ -106,9 +132,14 @@ module _ {S Q : Type 0} (s : SiteGhosts S) (tells : Bool) (conf : Settings) (m :
   class_slip c Volatile e = let k : None ≡ Some c = e in absurd (cc)
   class_slip c Forbidden e = let k : c ≡ cause.Forbidden = cc in ap is_slip k
 
+  visit_slip : (c : Cause Q) (v : Visit) → visit_refusal v ≡ Some c → is_slip c ≡ false
+  visit_slip c Shows e = let k : None ≡ Some c = e in absurd (cc)
+  visit_slip c Runs e = let k : None ≡ Some c = e in absurd (cc)
+  visit_slip c Forbids e = let k : c ≡ cause.Maint = cc in ap is_slip k
+
   refusal_slip : (c : Cause Q) (t : Reading) → refusal_of conf t ≡ Some c → is_slip c ≡ false
   refusal_slip c (Err fault) e = let k : c ≡ target_cause fault = cc in ap is_slip k ∙ fault_slip fault
-  refusal_slip c (Ok (Page query)) e = let k : c ≡ cause.BadTarget = cc in ap is_slip k
+  refusal_slip c (Ok (Page query)) e = visit_slip c (visit_of conf query) e
   refusal_slip c (Ok (File path origins)) e = class_slip c (class_of conf.pfile_pattern conf.vfile_pattern path) e
 
   class_loads : (c : Cause Q) (path : List ℕ) (origins : List (List ℕ)) (class : Class) → class_refusal class ≡ Some c
@@ -117,10 +148,29 @@ module _ {S Q : Type 0} (s : SiteGhosts S) (tells : Bool) (conf : Settings) (m :
   class_loads c path origins Volatile e = let k : None ≡ Some c = e in absurd (cc)
   class_loads c path origins Forbidden e = refl
 
-  target_loads : (c : Cause Q) (t : Reading) → refusal_of conf t ≡ Some c → (by_target {Q = Q} conf m w r t).loads ≡ None
-  target_loads c (Err fault) e = refl
-  target_loads c (Ok (Page query)) e = refl
-  target_loads c (Ok (File path origins)) e = class_loads c path origins (class_of conf.pfile_pattern conf.vfile_pattern path) e
+  visit_settles : (c : Cause Q) (v : Visit) → visit_refusal v ≡ Some c → new.plain ≡ old.plain
+      → IfSome (by_visit {Q = Q} m v) (λ a. SettledAny s a.loads now old new)
+  visit_settles c Shows e same = tt
+  visit_settles c Runs e same = tt
+  visit_settles c Forbids e same = same
+
+  target_settles : (c : Cause Q) (t : Reading) → refusal_of conf t ≡ Some c → new.plain ≡ old.plain
+      → IfSome (by_target {Q = Q} conf m w r t) (λ a. SettledAny s a.loads now old new)
+  target_settles c (Err fault) e same = same
+  target_settles c (Ok (Page query)) e same = visit_settles c (visit_of conf query) e same
+  target_settles c (Ok (File path origins)) e same = subst (λ o. SettledAny s o now old new)
+      (sym (class_loads c path origins (class_of conf.pfile_pattern conf.vfile_pattern path) e)) same
+
+  -- a refusal shows no page
+  visit_none : (c : Cause Q) (v : Visit) → visit_refusal v ≡ Some c → Visits tells m now old new note io v
+  visit_none c Shows e = let k : None ≡ Some c = e in absurd (cc)
+  visit_none c Runs e = let k : None ≡ Some c = e in absurd (cc)
+  visit_none c Forbids e = tt
+
+  target_none : (c : Cause Q) (t : Reading) → refusal_of conf t ≡ Some c → VisitsBy tells conf m now old new note io t
+  target_none c (Err fault) e = tt
+  target_none c (Ok (Page query)) e = visit_none c (visit_of conf query) e
+  target_none c (Ok (File path origins)) e = tt
 
   pub refused : (c : Cause Q) → refusal_of conf (reading conf r.method r.target) ≡ Some c → Gives (lined m c None None) note io
       → new.plain ≡ old.plain → Later old.faults new.faults → AnswersAt s tells conf m r now old new note io
@@ -128,13 +178,14 @@ module _ {S Q : Type 0} (s : SiteGhosts S) (tells : Bool) (conf : Settings) (m :
       let h = target_gives c (reading conf r.method r.target) e g in
       record {
         exact = λ t free. h.0;
+        page = target_none c (reading conf r.method r.target) e;
         lawful = inl h.1;
         sends = λ t k. no_file s conf m r c note io g;
-        settles = λ free. subst (λ o. SettledAny s o now old new) (sym (target_loads c (reading conf r.method r.target) e)) same;
-        leaves = after_same s (answered_as {Q = Q} conf m w r).loads now old new same;
+        settles = λ free. target_settles c (reading conf r.method r.target) e same;
+        leaves = on_any _ (answered_as {Q = Q} conf m w r) (λ a. after_same s a.loads now old new same);
         moment = line_moment m c note io now g;
         slip = λ is whole. absurd (line_slip m c note io (refusal_slip c (reading conf r.method r.target) e) g is);
-        later = later;
+        later = on_any _ (answered_as {Q = Q} conf m w r) (λ a. later);
       }
 
   -- ---- files
@@ -156,17 +207,18 @@ module _ {S Q : Type 0} (s : SiteGhosts S) (tells : Bool) (conf : Settings) (m :
     case_note case.Worn x = inr (record { kind = brim.Worn; gives = x })
     case_note case.Lead x = inl (loaded_note s tells m r path origins now old new note io x)
 
-    to_target : ByClass s tells m r path note io class → ByTarget s tells conf m r note io (reading conf r.method r.target)
-    to_target b = subst (ByTarget s tells conf m r note io) (sym way.read) (subst (ByClass s tells m r path note io) way.class_is b)
+    to_target : ByClass s tells m r path note io class → ByTarget s tells conf m r now note io (reading conf r.method r.target)
+    to_target b = subst (ByTarget s tells conf m r now note io) (sym way.read) (subst (ByClass s tells m r path note io) way.class_is b)
 
     lawful_by : AnswersCase s tells m r path origins now old new note io (begin_case (spot_at old.plain path) class now.0)
-        ⊎ AnswersSlip m old new note io ⊎ Gives (lined m cause.NoMemory None None) note io → IsLawfulNote s tells conf m r note io
+        ⊎ AnswersSlip m old new note io ⊎ Gives (lined m cause.NoMemory None None) note io → IsLawfulNote s tells conf m r now note io
     lawful_by (inl x) = inl (to_target (class_note (case_note (begin_case (spot_at old.plain path) class now.0) x) class way.passed))
     lawful_by (inr (inl x)) = inr (inl (record { slip = x.slip; gives = x.gives }))
     lawful_by (inr (inr x)) = inr (inr x)
 
-    to_answer : Gives (by_class m w r path origins class).answer note io → Gives (answered_as conf m w r).answer note io
-    to_answer g = subst (λ t. Gives (by_target conf m w r t).answer note io) (sym way.read)
+    to_answer : Gives (by_class m w r path origins class).answer note io
+        → IfSome (answered_as conf m w r) (λ a. Gives a.answer note io)
+    to_answer g = subst (λ t. IfSome (by_target conf m w r t) (λ a. Gives a.answer note io)) (sym way.read)
         (subst (λ c. Gives (by_class m w r path origins c).answer note io) way.class_is g)
 
     sends_note : s.tells ≡ true → tells ≡ true → FileNote s tells m r path note io ⊎ BrimNote m path note io → SendsFiles s conf m r note io
@@ -248,15 +300,16 @@ module _ {S Q : Type 0} (s : SiteGhosts S) (tells : Bool) (conf : Settings) (m :
     pub filed : (s.tells ≡ true → tells ≡ true) → AnswersAt s tells conf m r now old new note io
     filed told = record {
       exact = λ t free. to_answer (exact_file s tells m r path origins now old new note io free t (told t) class way.passed a);
+      page = subst (VisitsBy tells conf m now old new note io) (sym way.read) tt;
       lawful = lawful_by a.answers;
       sends = λ t k. sends_by t k a.answers;
-      settles = λ free. subst (λ t. SettledAny s (by_target {Q = Q} conf m w r t).loads now old new) (sym way.read)
+      settles = λ free. subst (λ t. IfSome (by_target {Q = Q} conf m w r t) (λ x. SettledAny s x.loads now old new)) (sym way.read)
           (subst (λ c. SettledAny s (by_class {Q = Q} m w r path origins c).loads now old new) way.class_is
           (settles_class free class way.passed a.answers a.leaves));
-      leaves = subst (λ t. AfterAny s (by_target {Q = Q} conf m w r t).loads now old new) (sym way.read)
+      leaves = subst (λ t. IfSome (by_target {Q = Q} conf m w r t) (λ x. AfterAny s x.loads now old new)) (sym way.read)
           (subst (λ c. AfterAny s (by_class {Q = Q} m w r path origins c).loads now old new) way.class_is
           (leaves_class class way.passed a.leaves));
       moment = a.moment;
       slip = slip_by a.answers;
-      later = a.later;
+      later = on_any _ (answered_as {Q = Q} conf m w r) (λ x. a.later);
     }

@@ -45,10 +45,11 @@ use Rattle.acng_serve.specs.Among.{FileAmong, LawfulAt, look_by}
 use Rattle.acng_serve.specs.Causes.{brim_cause, stop_cause, target_cause}
 use Rattle.acng_serve.specs.Files.{AnswersCase, AnswersFile, AnswersSlip}
 use Rattle.acng_serve.specs.Headline.{SendsFile, SendsFiles}
-use Rattle.acng_serve.specs.Lawful.{BrimNote, ByClass, ByTarget, EndsBroken, EndsCut, EndsWhole, FileNote, IsFound, IsLawfulNote}
+use Rattle.acng_serve.specs.Lawful.{BrimNote, ByClass, ByTarget, ByVisit, EndsBroken, EndsCut, EndsWhole, FileNote, IsFound, IsLawfulNote}
 use Rattle.acng_serve.specs.Lawful.{LacksNote, SlipNote}
 use Rattle.acng_serve.specs.Notes.{Found, Gives, filed, found_by, is_whole, lined}
-use Rattle.acng_serve.specs.Ways.{LeadsToFile, class_refusal, refusal_of}
+use Rattle.acng_serve.specs.Pages.{Visit, Shows, Runs, Forbids, visit_of}
+use Rattle.acng_serve.specs.Ways.{LeadsToFile, class_refusal, refusal_of, visit_refusal}
 use Rattle.acng_serve.proofs.FileNotes.{file_note, held_note, loaded_note, picked_by, stands_whole, there_by}
 use Rattle.acng_serve.proofs.Filing.{line_moment}
 use Rattle.acng_serve.proofs.Headlines.{no_file, sends_file}
@@ -310,12 +311,17 @@ module _ {S Q : Type 0} (s : SiteGhosts S) (tells : Bool) (conf : Settings) (m :
   class_gives c path Forbidden e g =
       let k : cause.Forbidden ≡ c = cc in subst (λ x. Gives (lined m x None None) note io) (sym k) g
 
+  visit_gives : (c : Cause Q) (v : Visit) → visit_refusal v ≡ Some c → Gives (lined m c None None) note io
+      → ByVisit tells m now note io v
+  visit_gives c Shows e g = let k : None ≡ Some c = e in absurd (cc)
+  visit_gives c Runs e g = let k : None ≡ Some c = e in absurd (cc)
+  visit_gives c Forbids e g = let k : cause.Maint ≡ c = cc in subst (λ x. Gives (lined m x None None) note io) (sym k) g
+
   target_gives : (c : Cause Q) (t : Reading) → refusal_of conf t ≡ Some c → Gives (lined m c None None) note io
-      → ByTarget s tells conf m r note io t
+      → ByTarget s tells conf m r now note io t
   target_gives c (Err fault) e g =
       let k : target_cause fault ≡ c = cc in subst (λ x. Gives (lined m x None None) note io) (sym k) g
-  target_gives c (Ok (Page query)) e g =
-      let k : cause.BadTarget ≡ c = cc in subst (λ x. Gives (lined m x None None) note io) (sym k) g
+  target_gives c (Ok (Page query)) e g = visit_gives c (visit_of conf query) e g
   target_gives c (Ok (File path origins)) e g = class_gives c path (class_of conf.pfile_pattern conf.vfile_pattern path) e g
 
   -- a target that leads nowhere
@@ -335,16 +341,16 @@ module _ {S Q : Type 0} (s : SiteGhosts S) (tells : Bool) (conf : Settings) (m :
     by_class n Volatile p = n
     by_class n Forbidden p = absurd (p refl)
 
-    by_target : FileNote s tells m r path note io ⊎ BrimNote m path note io → IsLawfulNote s tells conf m r note io
+    by_target : FileNote s tells m r path note io ⊎ BrimNote m path note io → IsLawfulNote s tells conf m r now note io
     by_target n =
-        inl (subst (ByTarget s tells conf m r note io) (sym way.read)
+        inl (subst (ByTarget s tells conf m r now note io) (sym way.read)
         (subst (ByClass s tells m r path note io) way.class_is (by_class n class way.passed)))
 
     pub file_at : FileAmong s tells m r path now note io → LawfulAt s tells conf m r now note io
     file_at a = record { lawful = lawful_by a.lawful; sends = sends_by a.lawful; moment = a.moment }
       where
         lawful_by : FileNote s tells m r path note io ⊎ BrimNote m path note io ⊎ SlipNote m note io ⊎ LacksNote m note io
-            → IsLawfulNote s tells conf m r note io
+            → IsLawfulNote s tells conf m r now note io
         lawful_by (inl n) = by_target (inl n)
         lawful_by (inr (inl b)) = by_target (inr b)
         lawful_by (inr (inr (inl x))) = inr (inl x)

@@ -1,5 +1,6 @@
 pub mod Answerings
 pub mod Exact
+pub mod Expiring
 pub mod FileNotes
 pub mod Filing
 pub mod Frees
@@ -10,3 +11,4 @@ pub mod Rules
 pub mod Sendings
 pub mod Stills
 pub mod Turnings
+pub mod Visiting

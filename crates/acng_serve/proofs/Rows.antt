@@ -1,7 +1,8 @@
 -- Worked answers, held against literal values and texts.
-use Rattle.std.proofs.Common.{◌≡◌, ℕ, zero, suc, true, false, List, [], ◌∷◌, Option, Some, None, refl, codes}
+use Rattle.std.proofs.Common.{◌≡◌, ℕ, zero, suc, true, false, List, [], ◌∷◌, length, Option, Some, None, refl, codes}
 use Rattle.std.specs.Bool.{⊤}
 use Rattle.std.specs.Fmt.{digits}
+use Rattle.std.specs.Option.{unwrap_or}
 use Rattle.acng_base.specs.Answers.{Reading, Whole, Early, Open}
 use Rattle.acng_base.specs.declared.clock.Moment.{Moment}
 use Rattle.acng_base.specs.declared.path.PathFault.TheVariants.{BadSegment}
@@ -18,9 +19,11 @@ use Rattle.acng_desk.specs.declared.entry.BrimKind.TheVariants as brim
 use Rattle.acng_desk.specs.Begins.{brim_of}
 use Rattle.acng_desk.specs.House.{Spot}
 use Rattle.acng_reply.specs.Manners.{manner_of}
+use Rattle.acng_report.specs.Pages.{page_of}
 use Rattle.acng_reply.specs.Replies.{text_by}
 use Rattle.acng_serve.specs.declared.note.Cause.TheVariants as cause
-use Rattle.acng_serve.specs.Answered.{World, Answered, answered, by_class}
+use Rattle.acng_serve.specs.Answered.{World, Answered, answered, by_class, still}
+use Rattle.acng_serve.specs.Notes.{lined, paged}
 
 abbrev at_second : ℕ → Moment
 at_second n = record { 0 = n }
@@ -56,8 +59,9 @@ bare = record { row = None; part = None; crowded = false; roomy = true; next_try
 abbrev world : Spot → Reading → World
 world spot r = record { spot = λ p. spot; bodies = λ id. codes "abc"; heard = λ n a. r; instance = λ n p. codes "abc"; now = at_second 1000 }
 
+-- where the request shows no page
 abbrev asks : World → Request → Answered ⊤
-asks w r = answered defaults true w r
+asks w r = unwrap_or (answered defaults true w r) (still (lined (manner_of true r) cause.NoMemory None None))
 
 -- ---- a file that isn't held
 
@@ -258,3 +262,39 @@ another_cause = refl
 
 another_status : another.answer.note.status ≡ 502
 another_status = refl
+
+-- ---- the report page
+
+-- what isn't answered by the function is the page's
+abbrev visits : Settings → List ℕ → Option (Answered ⊤)
+visits s target = answered s true (world bare same) (get target)
+
+shown_page : visits defaults (codes "/acng-report.html") ≡ None
+unfolding remap_on_literals
+shown_page = refl
+
+other_query : visits defaults (codes "/acng-report.html?run=import") ≡ None
+unfolding remap_on_literals
+other_query = refl
+
+-- a run needs leave
+forbidden_run : (asks (world bare same) (get (codes "/acng-report.html?run=expire"))).answer.note.cause ≡ cause.Maint
+unfolding remap_on_literals
+forbidden_run = refl
+
+allowed_run : visits (record defaults { maint_over_http = true }) (codes "/acng-report.html?run=expire") ≡ None
+unfolding remap_on_literals
+allowed_run = refl
+
+-- the page of an empty cache, and the same behind a run
+abbrev empty_page : List ℕ → List ℕ
+empty_page first = page_of first []
+
+text_of_page : text_by (paged {Q = ⊤} (manner_of true (get url)) (record { bytes = empty_page []; first = [] }) None).reply [] (empty_page [] ∷ [])
+    ≡ codes "HTTP/1.1 200 OK\r\nContent-Type: text/html\r\nContent-Length: 108\r\nConnection: close\r\n\r\n<!DOCTYPE html><html><head><title>acng report</title></head><body><pre>\nrows 0 bytes 0\n</pre></body></html>\n"
+unfolding digits
+text_of_page = refl
+
+length_behind_run : length (empty_page (codes "done removed 0 marked 0")) ≡ 132
+unfolding digits
+length_behind_run = refl

@@ -26,7 +26,7 @@ pub record FileAmong {S Q : Type 0} (s : SiteGhosts S) (tells : Bool) (m : Manne
 -- any request, at a moment
 pub record LawfulAt {S Q : Type 0} (s : SiteGhosts S) (tells : Bool) (conf : Settings) (m : Manner) (r : Request) (now : Moment)
     (note : Note Q) (io : Sent) : Type 0 where
-  pub lawful : IsLawfulNote s tells conf m r note io
+  pub lawful : IsLawfulNote s tells conf m r now note io
   pub sends : s.tells ≡ true → tells ≡ true → SendsFiles s conf m r note io
   pub moment : (e : Entry) → note.entry ≡ Some e → e.moment ≡ now
 

@@ -1,5 +1,5 @@
 -- What a request is answered where nothing fails: a function of the request, the configuration, what the desk has, the site
--- and the moment.
+-- and the moment. What the report page shows is told of the desk itself.
 use Rattle.std.specs.Prelude.{ℕ, Bool, true, false, List, [], Option, Some, None, option_map, Ok, Err}
 use Rattle.std.specs.FinMap as map
 use Rattle.acng_base.specs.declared.clock.Moment.{Moment}
@@ -34,6 +34,7 @@ use Rattle.acng_reply.specs.Manners.{manner_of}
 use Rattle.acng_serve.specs.declared.note.Cause.TheVariants as cause
 use Rattle.acng_serve.specs.Causes.{target_cause, brim_cause}
 use Rattle.acng_serve.specs.Notes.{Answer, Found, lined, found, answer_of}
+use Rattle.acng_serve.specs.Pages.{Visit, Shows, Runs, Forbids, visit_of}
 
 -- what an answer depends on besides the request and the configuration
 pub record World : Type 0 where
@@ -125,16 +126,21 @@ by_class m w r path origins Forbidden = still (lined m cause.Forbidden None None
 by_class m w r path origins Solid = by_case m w r path origins (begin_case (w.spot path) Solid w.now.0)
 by_class m w r path origins Volatile = by_case m w r path origins (begin_case (w.spot path) Volatile w.now.0)
 
--- until there is a page, a target that names it is refused
-abbrev pub by_target : {Q : Type 0} → Settings → Manner → World → Request → Reading → Answered Q
-by_target s m w r (Err fault) = still (lined m (target_cause fault) None None)
-by_target s m w r (Ok (Page query)) = still (lined m cause.BadTarget None None)
-by_target s m w r (Ok (File path origins)) = by_class m w r path origins (class_of s.pfile_pattern s.vfile_pattern path)
+-- None where the page is shown: the desk itself tells what is on it
+abbrev pub by_visit : {Q : Type 0} → Manner → Visit → Option (Answered Q)
+by_visit m Shows = None
+by_visit m Runs = None
+by_visit m Forbids = Some (still (lined m cause.Maint None None))
+
+abbrev pub by_target : {Q : Type 0} → Settings → Manner → World → Request → Reading → Option (Answered Q)
+by_target s m w r (Err fault) = Some (still (lined m (target_cause fault) None None))
+by_target s m w r (Ok (Page query)) = by_visit m (visit_of s query)
+by_target s m w r (Ok (File path origins)) = Some (by_class m w r path origins (class_of s.pfile_pattern s.vfile_pattern path))
 
 -- what a request is answered in a manner
-abbrev pub answered_as : {Q : Type 0} → Settings → Manner → World → Request → Answered Q
+abbrev pub answered_as : {Q : Type 0} → Settings → Manner → World → Request → Option (Answered Q)
 answered_as s m w r = by_target s m w r (reading s r.method r.target)
 
 -- what a request is answered; `last` is the last of its connection
-abbrev pub answered : {Q : Type 0} → Settings → Bool → World → Request → Answered Q
+abbrev pub answered : {Q : Type 0} → Settings → Bool → World → Request → Option (Answered Q)
 answered s last w r = answered_as s (manner_of last r) w r

@@ -18,6 +18,7 @@ use Rattle.acng_serve.specs.declared.note.Cause.TheVariants as cause
 -- the line of a reply that has one
 abbrev pub line_of : {Q : Type 0} → Cause Q → Option Line
 line_of cause.Served = None
+line_of (cause.Page page run) = None
 line_of cause.NotModified = None
 line_of (cause.NoPart from total) = Some (line.NoPart total)
 line_of (cause.Head fault) = Some (fault_line fault)
@@ -68,6 +69,7 @@ stop_cause p stop.ClientFault = cause.ClientFault
 -- a call of the keeper or of a file failed
 abbrev pub is_slip : {Q : Type 0} → Cause Q → Bool
 is_slip cause.Served = false
+is_slip (cause.Page page run) = false
 is_slip cause.NotModified = false
 is_slip (cause.NoPart from total) = false
 is_slip (cause.Head fault) = false
@@ -89,6 +91,7 @@ is_slip cause.NoMemory = false
 -- the client's link failed
 abbrev pub is_client_fault : {Q : Type 0} → Cause Q → Bool
 is_client_fault cause.Served = false
+is_client_fault (cause.Page page run) = false
 is_client_fault cause.NotModified = false
 is_client_fault (cause.NoPart from total) = false
 is_client_fault (cause.Head fault) = false
@@ -106,3 +109,25 @@ is_client_fault (cause.Full brim) = false
 is_client_fault (cause.Worn brim) = false
 is_client_fault cause.ClientFault = true
 is_client_fault cause.NoMemory = false
+
+-- the report page was sent
+abbrev pub is_page : {Q : Type 0} → Cause Q → Bool
+is_page cause.Served = false
+is_page (cause.Page page run) = true
+is_page cause.NotModified = false
+is_page (cause.NoPart from total) = false
+is_page (cause.Head fault) = false
+is_page cause.Connect = false
+is_page cause.Tls = false
+is_page cause.BadTarget = false
+is_page cause.Query = false
+is_page (cause.BadPath fault) = false
+is_page cause.Forbidden = false
+is_page cause.Maint = false
+is_page (cause.Load shown) = false
+is_page (cause.KeeperSlip slip) = false
+is_page (cause.Offline brim) = false
+is_page (cause.Full brim) = false
+is_page (cause.Worn brim) = false
+is_page cause.ClientFault = false
+is_page cause.NoMemory = false

@@ -1,5 +1,6 @@
 -- When a note is lawful for a request, whoever else uses the desk, and what went out for it.
-use Rattle.std.specs.Prelude.{◌≡◌, ◌⊎◌, ◌≤◌, ℕ, Bool, true, false, List, length, Option, Some, None, Ok, Err, IfSome, IsSome, ⊤}
+use Rattle.std.specs.Prelude.{◌≡◌, ◌⊎◌, ◌≤◌, ℕ, Bool, true, false, List, length, [], Option, Some, None, Ok, Err, IfSome, IsSome, ⊤}
+use Rattle.acng_base.specs.declared.clock.Moment.{Moment}
 use Rattle.acng_site.specs.declared.site.Site.{Ghosts as SiteGhosts}
 use Rattle.acng_head.specs.declared.head.Label.{Label}
 use Rattle.acng_conf.specs.Settings.{Settings}
@@ -17,6 +18,7 @@ use Rattle.acng_grow.specs.Causes.{IsLawful}
 use Rattle.acng_grow.specs.Looks.{CauseStands}
 use Rattle.acng_grow.specs.Stands.{StandsFor, StandsWhole, FactsStand}
 use Rattle.acng_desk.specs.declared.entry.BrimKind.{BrimKind}
+use Rattle.acng_desk.specs.House.{House, Plain}
 use Rattle.acng_reply.specs.declared.manner.Manner.{Manner}
 use Rattle.acng_reply.specs.declared.pick.Pick.{Pick}
 use Rattle.acng_reply.specs.declared.pick.Pick.TheVariants as picks
@@ -26,7 +28,8 @@ use Rattle.acng_serve.specs.declared.note.Cause.{Cause}
 use Rattle.acng_serve.specs.declared.note.Cause.TheVariants as cause
 use Rattle.acng_serve.specs.declared.note.Note.{Note}
 use Rattle.acng_serve.specs.Causes.{target_cause, brim_cause}
-use Rattle.acng_serve.specs.Notes.{Answer, Found, Gives, lined, answer_of}
+use Rattle.acng_serve.specs.Notes.{Answer, Found, Gives, lined, paged, answer_of}
+use Rattle.acng_serve.specs.Pages.{Visit, Shows, Runs, Forbids, RunsDesk, page_at, visit_of}
 
 -- ---- what was found for a file
 
@@ -110,10 +113,26 @@ ByClass s tells m r path note io Forbidden = Gives (lined m cause.Forbidden None
 ByClass s tells m r path note io Solid = FileNote s tells m r path note io ⊎ BrimNote m path note io
 ByClass s tells m r path note io Volatile = FileNote s tells m r path note io ⊎ BrimNote m path note io
 
-abbrev pub ByTarget : {S Q : Type 0} → SiteGhosts S → Bool → Settings → Manner → Request → Note Q → Sent → Reading → Type 0
-ByTarget s tells conf m r note io (Err fault) = Gives (lined m (target_cause fault) None None) note io
-ByTarget s tells conf m r note io (Ok (Page query)) = Gives (lined m cause.BadTarget None None) note io
-ByTarget s tells conf m r note io (Ok (File path origins)) =
+-- the page of some desk
+pub record PageNote {Q : Type 0} (m : Manner) (note : Note Q) (io : Sent) : Type 0 where
+  pub desk : Plain
+  pub gives : Gives (paged m (page_at [] desk) None) note io
+
+-- a run at the moment over some desk, and the page of what it left
+pub record RunNote {Q : Type 0} (tells : Bool) (m : Manner) (now : Moment) (note : Note Q) (io : Sent) : Type 0 where
+  pub old : House
+  pub new : House
+  pub runs : RunsDesk tells m now old new note io
+
+abbrev pub ByVisit : {Q : Type 0} → Bool → Manner → Moment → Note Q → Sent → Visit → Type 0
+ByVisit tells m now note io Shows = PageNote m note io
+ByVisit tells m now note io Runs = RunNote tells m now note io
+ByVisit tells m now note io Forbids = Gives (lined m cause.Maint None None) note io
+
+abbrev pub ByTarget : {S Q : Type 0} → SiteGhosts S → Bool → Settings → Manner → Request → Moment → Note Q → Sent → Reading → Type 0
+ByTarget s tells conf m r now note io (Err fault) = Gives (lined m (target_cause fault) None None) note io
+ByTarget s tells conf m r now note io (Ok (Page query)) = ByVisit tells m now note io (visit_of conf query)
+ByTarget s tells conf m r now note io (Ok (File path origins)) =
     ByClass s tells m r path note io (class_of conf.pfile_pattern conf.vfile_pattern path)
 
 -- a failed call of the keeper let no request in; the note has its slip
@@ -124,7 +143,7 @@ pub record SlipNote {Q : Type 0} (m : Manner) (note : Note Q) (io : Sent) : Type
 abbrev pub LacksNote : {Q : Type 0} → Manner → Note Q → Sent → Type 0
 LacksNote m note io = Gives (lined m cause.NoMemory None None) note io
 
--- a lawful note, and what went out for it
-abbrev pub IsLawfulNote : {S Q : Type 0} → SiteGhosts S → Bool → Settings → Manner → Request → Note Q → Sent → Type 0
-IsLawfulNote s tells conf m r note io =
-    ByTarget s tells conf m r note io (reading conf r.method r.target) ⊎ SlipNote m note io ⊎ LacksNote m note io
+-- a lawful note at a moment, and what went out for it
+abbrev pub IsLawfulNote : {S Q : Type 0} → SiteGhosts S → Bool → Settings → Manner → Request → Moment → Note Q → Sent → Type 0
+IsLawfulNote s tells conf m r now note io =
+    ByTarget s tells conf m r now note io (reading conf r.method r.target) ⊎ SlipNote m note io ⊎ LacksNote m note io

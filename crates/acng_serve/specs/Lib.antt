@@ -7,6 +7,7 @@ pub mod Headline
 pub mod Houses
 pub mod Lawful
 pub mod Notes
+pub mod Pages
 pub mod Sessions
 pub mod Turns
 pub mod Ways

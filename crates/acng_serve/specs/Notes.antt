@@ -9,6 +9,8 @@ use Rattle.acng_grow.specs.declared.owned.FollowStop.TheVariants as stop
 use Rattle.acng_grow.specs.Grown.{Grown, text_of}
 use Rattle.acng_grow.specs.declared.why.Shown.{Shown}
 use Rattle.acng_desk.specs.declared.entry.Entry.{Entry}
+use Rattle.acng_expire.specs.declared.line.ExpireLine.{ExpireLine}
+use Rattle.acng_report.specs.Pages.{Page}
 use Rattle.acng_request.specs.declared.got.Request.{Request}
 use Rattle.acng_reply.specs.declared.line.Line.{Line}
 use Rattle.acng_reply.specs.declared.line.Line.TheVariants as line
@@ -16,7 +18,7 @@ use Rattle.acng_reply.specs.declared.manner.Manner.{Manner}
 use Rattle.acng_reply.specs.declared.pick.Pick.{Pick}
 use Rattle.acng_reply.specs.Lines.{line_status}
 use Rattle.acng_reply.specs.Picks.{pick, is_kept, part_in, status_of}
-use Rattle.acng_reply.specs.Replies.{Reply, Sent, WroteAll, WroteFront, line_reply, file_reply, through}
+use Rattle.acng_reply.specs.Replies.{Reply, Sent, WroteAll, WroteFront, line_reply, page_reply, file_reply, through}
 use Rattle.acng_serve.specs.declared.note.Cause.{Cause}
 use Rattle.acng_serve.specs.declared.note.Cause.TheVariants as cause
 use Rattle.acng_serve.specs.declared.note.Note.{Note}
@@ -46,6 +48,23 @@ lined m c label entry = record {
     whole = true;
   };
   reply = line_reply m (line_or (line_of c));
+}
+
+-- ---- the report page
+
+-- a page, with the run that went before it
+abbrev pub paged : {Q : Type 0} → Manner → Page → Option (ExpireLine Q) → Answer Q
+paged m page run = record {
+  note = record {
+    status = 200;
+    cause = cause.Page page run;
+    label = None;
+    entry = None;
+    part = None;
+    sent = length (page_reply m page.bytes).body;
+    whole = true;
+  };
+  reply = page_reply m page.bytes;
 }
 
 -- ---- files

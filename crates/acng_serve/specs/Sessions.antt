@@ -20,7 +20,7 @@ use Rattle.acng_serve.specs.declared.note.Note.{Note}
 use Rattle.acng_serve.specs.declared.notes.SessionStop.{SessionStop}
 use Rattle.acng_serve.specs.declared.notes.SessionStop.TheVariants as stop
 use Rattle.acng_serve.specs.Answers.{AnswersOne}
-use Rattle.acng_serve.specs.Causes.{is_client_fault}
+use Rattle.acng_serve.specs.Causes.{is_client_fault, is_page}
 use Rattle.acng_serve.specs.Notes.{Gives, lined, LinkTold}
 
 -- ---- the heads of a connection
@@ -98,9 +98,9 @@ pub record RepliesTo {X Q : Type 0} (rule : Rule X Q) (last : Bool) (h : Head) (
 
 -- ---- how the connection ends
 
--- a connection goes on behind a whole reply whose head doesn't close it
+-- a connection goes on behind a whole reply whose head doesn't close it; that of a page does
 abbrev pub shuts : {Q : Type 0} → Bool → Note Q → Head → Bool
-shuts last note (Ok r) = (manner_of last r).close || not note.whole
+shuts last note (Ok r) = (manner_of last r).close || is_page note.cause || not note.whole
 shuts last note (Err f) = true
 
 -- a failed link goes before the limit, and the limit before a reply that closes

@@ -1,10 +1,11 @@
 //! The answer to one request among others that use the desk at the same time.
 //!
 //! The desk's lock is held for one call, which lets the request in. A body that is held is sent without a lock. A body that
-//! is being loaded is followed as it comes, by whoever let it be loaded and by those that join. What a lock's user saw may be
+//! is being loaded is followed as it comes, by whoever let it be loaded and by those that join. A page is made under the lock,
+//! behind the run that is asked for, and sent without it. What a lock's user saw may be
 //! otherwise for the next one, so an answer rests on what was handed out under the lock, and on looks at the body that was
 //! asked for.
-ghost use Rattle.std.specs.Prelude.{◌≡◌, ◌≢◌, ◌≤◌, true, false, length, All, Some};
+ghost use Rattle.std.specs.Prelude.{◌≡◌, ◌≢◌, ◌≤◌, ◌⊎◌, true, false, length, All, Some, IfOk};
 ghost use Rattle.std.specs.Io.KnownBytes.{Keeps};
 ghost use Rattle.acng_site.specs.Honest.{IsHonest};
 ghost use Rattle.acng_class.specs.declared.class.Class.TheVariants.{Forbidden};
@@ -13,13 +14,15 @@ ghost use Rattle.acng_grow.specs.Looks.{LookStands};
 ghost use Rattle.acng_desk.specs.Tickets.{IsUnused};
 ghost use Rattle.acng_reply.specs.Replies.{sent_by};
 ghost use Rattle.acng_serve.specs.Notes.{LinkTold};
-ghost use Rattle.acng_serve.specs.Lawful.{FileNote};
+ghost use Rattle.acng_serve.specs.Lawful.{FileNote, LacksNote, PageNote, RunNote};
 ghost use Rattle.acng_serve.specs.Among.{AnswersAmong, FileAmong, LawfulAt, look_by};
+ghost use Rattle.acng_serve.specs.Pages.{IsSomePage, IsSomeRun};
 
 use crate::answer::answer_held;
 use crate::file::{cause_of, is_whole};
 use crate::house::House;
 use crate::note::{Cause, Note};
+use crate::page::{Report, expire_and_show, send_report, show};
 use crate::refuse::refuse;
 use crate::way::{Way, way_of};
 use acng_base::{CachePath, Clock, Link, Moment, NoMemory, Texts};
@@ -104,8 +107,74 @@ where
         } => answer_file_among(
             rt, alloc, house, origin, loaders, now, manner, request, path, class, &origins, client,
         ),
+        Way::Page => answer_page_among(rt, alloc, house, manner, client),
+        Way::Run => answer_run_among(rt, alloc, house, now, manner, client),
         Way::Refusal(cause) => refuse(manner, cause, None, None, client),
     }
+}
+
+// Answers a request for the page.
+fn answer_page_among<R: Wait, S: Site, K: Keeper, P: OriginSlip, L: Link>(
+    rt: &R,
+    alloc: Global,
+    house: &House<S, K, P>,
+    manner: Manner,
+    client: &mut L,
+) -> Note<SlipOf<K>>
+    ensures note { PageNote manner result (sent_by L.Link client.old client.new)
+        ⊎ LacksNote manner result (sent_by L.Link client.old client.new) }
+    ensures others { Keeps (L.left client.old) (L.left client.new) }
+    ensures fault { LinkTold result (L.faults client.old) (L.faults client.new) }
+{
+    match show_among(rt, alloc, house) {
+        Ok(report) => send_report(manner, report, client),
+        Err(NoMemory) => refuse(manner, Cause::NoMemory, None, None, client),
+    }
+}
+
+// The page of the desk. The lock is let go with the call.
+fn show_among<R: Wait, S: Site, K: Keeper, P: OriginSlip>(
+    rt: &R,
+    alloc: Global,
+    house: &House<S, K, P>,
+) -> Result<Report<SlipOf<K>>, NoMemory>
+    ensures { IfOk result (λ report. IsSomePage report.page report.run) }
+{
+    let mut desk = house.desk().lock(rt);
+    show(alloc, &mut *desk)
+}
+
+// Answers a request for a run and the page of what it leaves.
+fn answer_run_among<R: Wait, S: Site, K: Keeper, P: OriginSlip, L: Link>(
+    rt: &R,
+    alloc: Global,
+    house: &House<S, K, P>,
+    now: Moment,
+    manner: Manner,
+    client: &mut L,
+) -> Note<SlipOf<K>>
+    ensures note { RunNote K.tells manner now result (sent_by L.Link client.old client.new)
+        ⊎ LacksNote manner result (sent_by L.Link client.old client.new) }
+    ensures others { Keeps (L.left client.old) (L.left client.new) }
+    ensures fault { LinkTold result (L.faults client.old) (L.faults client.new) }
+{
+    match run_among(rt, alloc, house, now) {
+        Ok(report) => send_report(manner, report, client),
+        Err(NoMemory) => refuse(manner, Cause::NoMemory, None, None, client),
+    }
+}
+
+// A run over the desk, and its page. The lock is held through both, and let go with the call.
+fn run_among<R: Wait, S: Site, K: Keeper, P: OriginSlip>(
+    rt: &R,
+    alloc: Global,
+    house: &House<S, K, P>,
+    now: Moment,
+) -> Result<Report<SlipOf<K>>, NoMemory>
+    ensures { IfOk result (λ report. IsSomeRun K.tells now report.page report.run) }
+{
+    let mut desk = house.desk().lock(rt);
+    expire_and_show(alloc, &mut *desk, now)
 }
 
 // Answers a request for a file.

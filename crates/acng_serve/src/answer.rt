@@ -1,8 +1,9 @@
 //! The answer to one request, with the desk to itself.
 //!
 //! The moment is taken first, and then the target is read, the file's class looked up, and the desk asked. A body is loaded
-//! before it is sent, and what settling it answers doesn't change the reply. No ticket is out before or after.
-ghost use Rattle.std.specs.Prelude.{◌≡◌, ◌≢◌, ◌≤◌, ℕ, true, length, All};
+//! before it is sent, and what settling it answers doesn't change the reply. A page is of the desk as the request leaves it. No
+//! ticket is out before or after.
+ghost use Rattle.std.specs.Prelude.{◌≡◌, ◌≢◌, ◌≤◌, ◌⊎◌, ℕ, true, length, All};
 ghost use Rattle.std.specs.Io.KnownBytes.{Keeps};
 ghost use Rattle.acng_base.specs.Moments.{Ticks};
 ghost use Rattle.acng_base.specs.declared.clock.Moment.{Moment};
@@ -19,12 +20,14 @@ ghost use Rattle.acng_desk.specs.Keeps.{IsIdle};
 ghost use Rattle.acng_serve.specs.Notes.{LinkTold, SendsFound};
 ghost use Rattle.acng_serve.specs.Files.{AnswersFile, held_grown, LoadsFound};
 ghost use Rattle.acng_serve.specs.Answers.{AnswersAt, AnswersOne};
+ghost use Rattle.acng_serve.specs.Pages.{RunsDesk, LacksRun, ShowsDesk};
 
 use crate::file::send_found;
 use crate::note::{Cause, Note};
+use crate::page::{expire_and_show, send_report, show};
 use crate::refuse::refuse;
 use crate::way::{Way, way_of};
-use acng_base::{CachePath, Clock, Link, Moment, Texts};
+use acng_base::{CachePath, Clock, Link, Moment, NoMemory, Texts};
 use acng_class::{Class, Classes};
 use acng_conf::Conf;
 use acng_desk::{Begun, Desk, Entry, Held, Ticket};
@@ -121,7 +124,47 @@ pub(crate) fn answer_at<S: Site, K: Keeper, O: Origin<S>, L: Link>(
         } => answer_file(
             alloc, desk, origin, now, manner, request, path, class, &origins, client,
         ),
+        Way::Page => answer_page(alloc, desk, manner, client),
+        Way::Run => answer_run(alloc, desk, now, manner, client),
         Way::Refusal(cause) => refuse(manner, cause, None, None, client),
+    }
+}
+
+// Answers a request for the page.
+fn answer_page<S: Site, K: Keeper, L: Link>(
+    alloc: Global,
+    desk: &mut Desk<S, K, ()>,
+    manner: Manner,
+    client: &mut L,
+) -> Note<SlipOf<K>>
+    ensures shows { ShowsDesk manner desk.old desk.new result (sent_by L.Link client.old client.new) }
+    ensures others { Keeps (L.left client.old) (L.left client.new) }
+    ensures fault { LinkTold result (L.faults client.old) (L.faults client.new) }
+{
+    match show(alloc, desk) {
+        Ok(report) => send_report(manner, report, client),
+        Err(NoMemory) => refuse(manner, Cause::NoMemory, None, None, client),
+    }
+}
+
+// Answers a request for a run and the page of what it leaves.
+fn answer_run<S: Site, K: Keeper, L: Link>(
+    alloc: Global,
+    desk: &mut Desk<S, K, ()>,
+    now: Moment,
+    manner: Manner,
+    client: &mut L,
+) -> Note<SlipOf<K>>
+    requires idle { IsIdle desk.old.plain }
+    ensures runs { RunsDesk K.tells manner now desk.old desk.new result (sent_by L.Link client.old client.new)
+        ⊎ LacksRun K.tells manner now desk.old desk.new result (sent_by L.Link client.old client.new) }
+    ensures idle { IsIdle desk.new.plain }
+    ensures others { Keeps (L.left client.old) (L.left client.new) }
+    ensures fault { LinkTold result (L.faults client.old) (L.faults client.new) }
+{
+    match expire_and_show(alloc, desk, now) {
+        Ok(report) => send_report(manner, report, client),
+        Err(NoMemory) => refuse(manner, Cause::NoMemory, None, None, client),
     }
 }
 

@@ -1,7 +1,8 @@
-//! What a request gets: a file from the cache or by a download, or a line that says why not.
+//! What a request gets: a file from the cache or by a download, the report page, or a line that says why neither.
 //!
 //! A request is read as a target, its file's class is looked up, and the desk lets it in: a held body is sent, or a body is
-//! loaded and then sent. What is told of the reply is a `Note`: its cause, and by which body and for which path it was let
+//! loaded and then sent. The report page tells what the desk holds, behind a run of expiration where one is asked for and
+//! allowed. What is told of the reply is a `Note`: its cause, and by which body and for which path it was let
 //! in. The whole answer is a function of the request, the configuration, what the desk has, the site and one moment; it
 //! yields to a failed call of the keeper, a failed link and want of memory. A session answers the requests of a connection so,
 //! one after another.
@@ -15,6 +16,7 @@ mod house;
 mod note;
 mod notes;
 mod owned;
+mod page;
 mod refuse;
 mod server;
 mod way;

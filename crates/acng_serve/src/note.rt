@@ -1,13 +1,15 @@
 //! What is told of a reply.
 ghost use Rattle.std.specs.Prelude.{◌≡◌};
-ghost use Rattle.acng_serve.specs.Causes.{line_of, is_client_fault, target_cause as target_cause_of};
+ghost use Rattle.acng_serve.specs.Causes.{line_of, is_client_fault, is_page, target_cause as target_cause_of};
 
 use acng_base::PathFault;
 use acng_desk::{Brim, Entry};
+use acng_expire::ExpireLine;
 use acng_grow::Shown;
 use acng_head::Label;
 use acng_remap::TargetFault;
 use acng_reply::Line;
+use acng_report::PageText;
 use acng_request::HeadFault;
 
 /// Why a reply is as it is.
@@ -15,6 +17,11 @@ use acng_request::HeadFault;
 pub enum Cause<Q> {
     /// The file or the asked part of it was sent, or to HEAD its head.
     Served,
+    /// The report page was sent, or to HEAD its head. Where a run of expiration went before it, its line stands first.
+    Page {
+        page: PageText,
+        run: Option<ExpireLine<Q>>,
+    },
     /// The client has the file.
     NotModified,
     /// The range begins at the end of a file of so many bytes, or past it.
@@ -25,7 +32,7 @@ pub enum Cause<Q> {
     Connect,
     /// The origin is asked for over TLS.
     Tls,
-    /// The target has no form that is taken, or is the report page.
+    /// The target has no form that is taken.
     BadTarget,
     /// The target has a query.
     Query,
@@ -33,7 +40,7 @@ pub enum Cause<Q> {
     BadPath(PathFault),
     /// Files of this class aren't passed on.
     Forbidden,
-    /// The report page may start no expiration.
+    /// A run of expiration is asked for, and none may be made over HTTP.
     Maint,
     /// The body ended before it was whole.
     Load(Shown),
@@ -90,12 +97,19 @@ impl<Q> Cause<Q> {
         matches!(self, Cause::ClientFault)
     }
 
-    /// The line of a reply that has one. A file's reply has none, and what a link took before it failed isn't told here.
+    /// Whether the report page was sent, behind which a connection closes.
+    pub fn is_page(&self) -> bool
+        ensures { result ≡ is_page self.now }
+    {
+        matches!(self, Cause::Page { .. })
+    }
+
+    /// The line of a reply that has one. A file's reply and a page have none, and what a link took before it failed isn't told here.
     pub fn line(&self) -> Option<Line>
         ensures { result ≡ line_of self.now }
     {
         match self {
-            Cause::Served | Cause::NotModified | Cause::ClientFault => None,
+            Cause::Served | Cause::Page { .. } | Cause::NotModified | Cause::ClientFault => None,
             Cause::NoPart { total, .. } => Some(Line::NoPart { total: *total }),
             Cause::Head(fault) => Some(Line::of_fault(*fault)),
             Cause::Connect => Some(Line::Connect),

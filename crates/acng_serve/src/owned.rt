@@ -2,14 +2,14 @@
 //!
 //! A head is read from what is held of the link, and the link is read only where that decides nothing: a client may wait for
 //! its reply. A request's moment is taken once its head is read. The connection is over behind a reply whose head says so,
-//! behind one that was cut, behind the last reply that it may have, and where no head comes any more.
+//! behind one that was cut, behind a report page, behind the last reply that it may have, and where no head comes any more.
 ghost use Rattle.std.specs.Prelude.{◌≡◌, ◌==◌, ◌||◌, ◌<◌, not, true, length, vec_capacity};
 ghost use Rattle.acng_site.specs.Honest.{IsHonest};
 ghost use Rattle.acng_conf.specs.Settings.{rules_of};
 ghost use Rattle.acng_remap.specs.Origins.{ServesTargets};
 ghost use Rattle.acng_desk.specs.Keeps.{IsIdle};
 ghost use Rattle.acng_reply.specs.Manners.{manner_of};
-ghost use Rattle.acng_serve.specs.Causes.{is_client_fault as is_client_fault_of};
+ghost use Rattle.acng_serve.specs.Causes.{is_client_fault as is_client_fault_of, is_page};
 ghost use Rattle.acng_serve.specs.Sessions.{IsSession, by_desk, standing, most_requests, when, stop_after as stop_after_of};
 ghost use Rattle.acng_serve.specs.Turns.{Turned, turn_of};
 
@@ -133,12 +133,13 @@ pub(crate) fn manner_in(request: &Request, more: usize) -> Manner
     if more == 0 { manner.closing() } else { manner }
 }
 
-// A turn with a reply, whose head closes the connection or not.
+// A turn with a reply, whose manner closes the connection or not. A page always does.
 pub(crate) fn replied<Q>(note: Note<Q>, close: bool, more: usize) -> Turn<Q>
-    ensures { result ≡ turn_of note (when (close || not note.whole) (stop_after_of (is_client_fault_of note.cause) (more == 0))) }
+    ensures { result ≡ turn_of note (when (close || is_page note.cause || not note.whole)
+        (stop_after_of (is_client_fault_of note.cause) (more == 0))) }
 {
     let stop = stop_after(note.cause.is_client_fault(), more == 0);
-    if close || !note.whole {
+    if close || note.cause.is_page() || !note.whole {
         Turn::Closes(note, stop)
     } else {
         Turn::Goes(note)

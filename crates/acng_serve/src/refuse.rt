@@ -34,7 +34,8 @@ pub(crate) fn refuse<Q: Drop, L: Link>(
     }
 }
 
-fn told<Q>(
+/// A note of a reply that no file is sent by.
+pub(crate) fn told<Q>(
     status: u16,
     cause: Cause<Q>,
     label: Option<Label>,

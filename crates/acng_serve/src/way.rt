@@ -1,6 +1,7 @@
-//! What a request asks for: a file with its class, or why it gets none.
+//! What a request asks for: a file with its class, the report page, or why it gets neither.
 ghost use Rattle.std.specs.Prelude.{◌≡◌};
-ghost use Rattle.acng_serve.specs.Ways.{LeadsTo, LeadsByClass};
+ghost use Rattle.acng_serve.specs.Pages.{asks_run as asks_run_of, visit_by};
+ghost use Rattle.acng_serve.specs.Ways.{LeadsTo, LeadsByClass, LeadsByVisit};
 
 use crate::note::Cause;
 use acng_base::{CachePath, NoMemory, Texts};
@@ -18,6 +19,10 @@ pub(crate) enum Way<Q> {
         origins: Texts,
         class: Class,
     },
+    /// To the report page.
+    Page,
+    /// To the report page, behind a run of expiration.
+    Run,
     /// Nowhere.
     Refusal(Cause<Q>),
 }
@@ -41,8 +46,26 @@ pub(crate) fn way_of<Q: Drop>(
         request.target.as_bytes(),
     ) {
         Ok(Target::File { path, origins }) => file_way(alloc, classes, path, origins),
-        Ok(Target::Page(_)) => Way::Refusal(Cause::BadTarget),
+        Ok(Target::Page(query)) => page_way(asks_run(query.as_bytes()), conf.maint_over_http()),
         Err(fault) => Way::Refusal(Cause::of_target(fault)),
+    }
+}
+
+// Whether the page's query asks for a run of expiration; any other asks for nothing.
+fn asks_run(query: &[u8]) -> bool
+    ensures { result ≡ asks_run_of query.now }
+{
+    query == b"run=expire".as_slice()
+}
+
+// The way to the page. A run that is asked for needs the configuration's leave.
+fn page_way<Q>(asks: bool, leave: bool) -> Way<Q>
+    ensures { LeadsByVisit (visit_by asks leave) result }
+{
+    match (asks, leave) {
+        (false, _) => Way::Page,
+        (true, true) => Way::Run,
+        (true, false) => Way::Refusal(Cause::Maint),
     }
 }
 

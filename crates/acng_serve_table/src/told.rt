@@ -3,6 +3,7 @@ use crate::fault::Fault;
 use acng_base::{CachePath, PathFault};
 use acng_cli::OnceStop;
 use acng_desk::{Brim, Entry};
+use acng_expire::ExpireLine;
 use acng_grow::Shown;
 use acng_head::Label;
 use acng_keeper::{CallSlip, KeeperSlip};
@@ -32,6 +33,7 @@ fn word(alloc: Global, word: &str) -> Result<String, Fault> {
 fn cause_text(alloc: Global, cause: &Cause<CallSlip>) -> Result<String, Fault> {
     match cause {
         Cause::NoPart { from, total } => Ok(format!(in alloc; "NoPart {from} {total}")?),
+        Cause::Page { page, run } => page_text(alloc, page.first(), run.as_ref()),
         Cause::Head(fault) => word(alloc, head_word(*fault)),
         Cause::BadPath(fault) => path_fault_text(alloc, *fault),
         Cause::Load(shown) => shown_text(alloc, shown),
@@ -43,6 +45,27 @@ fn cause_text(alloc: Global, cause: &Cause<CallSlip>) -> Result<String, Fault> {
         Cause::Full(brim) => brim_text(alloc, "Full", brim),
         Cause::Worn(brim) => brim_text(alloc, "Worn", brim),
         cause => word(alloc, cause_word(cause)),
+    }
+}
+
+// A page by its first text, and the moment and the slip of the run before it.
+fn page_text(
+    alloc: Global,
+    first: &[u8],
+    run: Option<&ExpireLine<CallSlip>>,
+) -> Result<String, Fault> {
+    let Some(run) = run else {
+        let len = first.len();
+        return Ok(format!(in alloc; "Page {len}")?);
+    };
+    let same = if run.as_bytes() == first { "its line" } else { "another line" };
+    let moment = run.moment().0;
+    match run.slip() {
+        Some(slip) => {
+            let call = slip.call();
+            Ok(format!(in alloc; "Page {same} at {moment} slip {call}")?)
+        }
+        None => Ok(format!(in alloc; "Page {same} at {moment}")?),
     }
 }
 

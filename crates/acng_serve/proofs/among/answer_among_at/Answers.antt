@@ -3,8 +3,10 @@ use Rattle.acng_reply.specs.Replies.{sent_by}
 use Rattle.acng_serve.specs.Among.{LawfulAt}
 use Rattle.acng_remap.specs.Readings.{reading}
 use Rattle.acng_serve.specs.Notes.{Gives, lined}
-use Rattle.acng_serve.specs.Ways.{LeadsToFile, refusal_of}
+use Rattle.acng_serve.specs.Pages.{Shows, Runs}
+use Rattle.acng_serve.specs.Ways.{LeadsToFile, LeadsToPage, refusal_of}
 use Rattle.acng_serve.proofs.Lawfuls.{file_at, lacks_at, refused_at}
+use Rattle.acng_serve.proofs.Visiting.{shown_among, ran_among}
 use Rattle.acng_serve.proofs.among.answer_among_at.Goals as goal
 
 pub returns-in-File-clause-answers : goal.returns-in-File-clause-answers
@@ -29,3 +31,15 @@ returns-clause-answers g c =
       | inr k ↦ refused_at s g.K.Keeper.tells conf c.args.manner c.args.request.now c.args.now note io cause
           (subst (λ z. refusal_of z (reading z r.method r.target) ≡ Some cause) c.conf-2.ensures k) c.refuse-in-Refusal.ensures.gives
     ]
+
+pub returns-in-Page-clause-answers : goal.returns-in-Page-clause-answers
+returns-in-Page-clause-answers g c =
+    shown_among g.S.Site g.K.Keeper.tells c.args.house.now c.args.manner c.args.request.now c.args.now c.answer_page_among.result
+    (sent_by g.L.Link c.args.client.now c.answer_page_among.new.client)
+    (subst (λ k. LeadsToPage k c.args.request.now Shows) c.conf-2.ensures c.in-Page.ensures.way) c.answer_page_among.ensures.note
+
+pub returns-in-Run-clause-answers : goal.returns-in-Run-clause-answers
+returns-in-Run-clause-answers g c =
+    ran_among g.S.Site g.K.Keeper.tells c.args.house.now c.args.manner c.args.request.now c.args.now c.answer_run_among.result
+    (sent_by g.L.Link c.args.client.now c.answer_run_among.new.client)
+    (subst (λ k. LeadsToPage k c.args.request.now Runs) c.conf-2.ensures c.in-Run.ensures.way) c.answer_run_among.ensures.note

@@ -4,6 +4,7 @@ use Rattle.acng_reply.specs.Replies.{sent_by}
 use Rattle.acng_serve.specs.Answers.{AnswersAt}
 use Rattle.acng_serve.specs.Notes.{Gives, lined}
 use Rattle.acng_serve.proofs.Answerings.{lacks, refused, filed}
+use Rattle.acng_serve.proofs.Visiting.{shown_at, ran_at}
 use Rattle.acng_serve.proofs.answer.answer_at.Goals as goal
 
 same_faults : (f : Faults) → Later f f
@@ -31,3 +32,21 @@ returns-clause-answers g c =
       | inr k ↦ refused s g.K.Keeper.tells c.args.conf.now c.args.manner c.args.request.now c.args.now house house note io
           cause k c.refuse-in-Refusal.ensures.gives refl (same_faults house.faults)
     ]
+
+pub returns-in-Page-clause-answers : goal.returns-in-Page-clause-answers
+returns-in-Page-clause-answers g c =
+    shown_at g.S.Site g.K.Keeper.tells c.args.conf.now c.args.manner c.args.request.now c.args.now c.answer_page.result
+    (sent_by g.L.Link c.args.client.now c.answer_page.new.client) c.in-Page.ensures.way c.args.desk.now c.answer_page.new.desk
+    c.answer_page.ensures.shows
+
+pub returns-in-Run-clause-answers : goal.returns-in-Run-clause-answers
+returns-in-Run-clause-answers g c =
+    ran_at g.S.Site g.K.Keeper.tells c.args.conf.now c.args.manner c.args.request.now c.args.now c.answer_run.result
+    (sent_by g.L.Link c.args.client.now c.answer_run.new.client) c.in-Run.ensures.way c.args.desk.now c.answer_run.new.desk
+    c.answer_run.ensures.runs
+
+pub returns-in_default-clause-answers : goal.returns-in_default-clause-answers
+returns-in_default-clause-answers g c =
+    let house = c.args.desk.now in
+    lacks g.S.Site g.K.Keeper.tells c.args.conf.now c.args.manner c.args.request.now c.args.now house house c.refuse.result
+    (sent_by g.L.Link c.args.client.now c.refuse.new.client) c.refuse.ensures.gives refl (same_faults house.faults)

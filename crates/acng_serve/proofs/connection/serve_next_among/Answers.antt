@@ -1,7 +1,7 @@
 use Rattle.std.proofs.Common.{◌==◌, ◌||◌, not, Ok, Err, refl, ap, subst}
 use Rattle.std.proofs.KnownBytes.{Keeps-refl}
 use Rattle.acng_reply.specs.declared.manner.Manner.{Manner}
-use Rattle.acng_serve.specs.Causes.{is_client_fault}
+use Rattle.acng_serve.specs.Causes.{is_client_fault, is_page}
 use Rattle.acng_serve.specs.Among.{by_house}
 use Rattle.acng_serve.specs.Sessions.{side, between, when, stop_after}
 use Rattle.acng_serve.proofs.Turnings.{takes_request, takes_refused, takes_none, turned_reply}
@@ -20,7 +20,7 @@ returns-in-Request g c =
     let y = g.C.Clock.coming c.answer_among-note.new.clock in
     let stop = stop_after (is_client_fault note.cause) (c.args.more == 0) in
     turned_reply rule l (c.args.more == 0) from to c.args.buf.now c.read_request.new.buf x y note
-    (when (c.manner_in-manner.result.close || not note.whole) stop) c.replied.result c.replied.ensures
+    (when (c.manner_in-manner.result.close || is_page note.cause || not note.whole) stop) c.replied.result c.replied.ensures
     (record {
       head = Ok c.in-Request.request;
       replies = record {
@@ -30,7 +30,7 @@ returns-in-Request g c =
             c.answer_among-note.ensures.answers;
         told = c.answer_among-note.ensures.fault;
       };
-      ends = ap (λ (m : Manner). when (m.close || not note.whole) stop) c.manner_in-manner.ensures;
+      ends = ap (λ (m : Manner). when (m.close || is_page note.cause || not note.whole) stop) c.manner_in-manner.ensures;
       takes = takes_request l from mid to c.args.buf.now c.read_request.new.buf read.reads c.answer_among-note.ensures.others
           c.in-Request.request read.request;
     })

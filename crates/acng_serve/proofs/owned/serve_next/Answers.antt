@@ -1,7 +1,7 @@
 use Rattle.std.proofs.Common.{◌==◌, ◌||◌, not, Ok, Err, refl, ap, subst}
 use Rattle.std.proofs.KnownBytes.{Keeps-refl}
 use Rattle.acng_reply.specs.declared.manner.Manner.{Manner}
-use Rattle.acng_serve.specs.Causes.{is_client_fault}
+use Rattle.acng_serve.specs.Causes.{is_client_fault, is_page}
 use Rattle.acng_serve.specs.Sessions.{by_desk, standing, side, between, when, stop_after}
 use Rattle.acng_serve.proofs.Turnings.{takes_request, takes_refused, takes_none, turned_reply}
 use Rattle.acng_serve.proofs.owned.serve_next.Goals as goal
@@ -19,7 +19,7 @@ returns-in-Request-clause-turned g c =
     let y = standing c.answer_in-note.new.desk (g.C.Clock.coming c.answer_in-note.new.clock) in
     let stop = stop_after (is_client_fault note.cause) (c.args.more == 0) in
     turned_reply rule l (c.args.more == 0) from to c.args.buf.now c.read_request.new.buf x y note
-    (when (c.manner_in-manner.result.close || not note.whole) stop) c.replied.result c.replied.ensures
+    (when (c.manner_in-manner.result.close || is_page note.cause || not note.whole) stop) c.replied.result c.replied.ensures
     (record {
       head = Ok c.in-Request.request;
       replies = record {
@@ -29,7 +29,7 @@ returns-in-Request-clause-turned g c =
             c.answer_in-note.ensures.answers;
         told = c.answer_in-note.ensures.fault;
       };
-      ends = ap (λ (m : Manner). when (m.close || not note.whole) stop) c.manner_in-manner.ensures;
+      ends = ap (λ (m : Manner). when (m.close || is_page note.cause || not note.whole) stop) c.manner_in-manner.ensures;
       takes = takes_request l from mid to c.args.buf.now c.read_request.new.buf read.reads c.answer_in-note.ensures.others
           c.in-Request.request read.request;
     })
