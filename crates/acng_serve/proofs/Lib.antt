@@ -5,6 +5,7 @@ pub mod FileNotes
 pub mod Filing
 pub mod Frees
 pub mod Headlines
+pub mod Helds
 pub mod Lawfuls
 mod Rows
 pub mod Rules

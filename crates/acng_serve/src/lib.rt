@@ -11,7 +11,9 @@
 mod among;
 mod answer;
 mod connection;
+mod crew;
 mod file;
+mod held;
 mod house;
 mod note;
 mod notes;

@@ -1,9 +1,10 @@
-//! The server: loaders, and a session for each connection, in threads of their own.
+//! The server: loaders, and threads that serve connections.
 //!
-//! Eight loaders run the downloads that sessions hand over. At most 64 sessions run in threads of their own; the thread that
-//! accepts connections serves a further one itself, and one whose thread can't be started. Where no loader can be started,
-//! each session runs its own download. A client that sends nothing for 30 seconds while its request is waited for, or that
-//! takes nothing for as long, has failed.
+//! Eight loaders run the downloads that sessions hand over. Up to 64 threads each wait for a connection, serve it, and wait for
+//! the next one. The thread that began starts another one as soon as none waits; where one can't be started, it serves a
+//! connection itself. While 64 are busy, further connections wait with the system. Where no loader can be started, each
+//! session runs its own download. A client that sends nothing for 30 seconds while its request is waited for, or that takes
+//! nothing for as long, has failed.
 //!
 //! This file stands at the edge: that a thread runs, and that a connection comes, no contract says. What a session does is
 //! `session`'s, what a loader does is `load`'s. The process is ended from outside; the cache is right after any stop.
@@ -13,7 +14,10 @@ ghost use Rattle.acng_site.specs.Honest.{IsHonest};
 ghost use Rattle.acng_remap.specs.Origins.{ServesTargets};
 
 use crate::connection::session;
+use crate::crew::Crew;
+use crate::held::HeldLink;
 use crate::house::House;
+use crate::notes::SessionStop;
 use acng_base::{HostClock, StdLink};
 use acng_conf::Conf;
 use acng_fetch::Pool;
@@ -23,16 +27,12 @@ use std::alloc::Global;
 use std::io::Read;
 use std::net::{Net, Shutdown, TcpListener, TcpStream};
 use std::sync::Wait;
-use std::sync::atomic::{AtomicU64, Ordering};
 use std::thread::Threads;
 use std::time::{Clock as TimeSource, Duration};
 use std::{io, str, thread};
 
 /// The loaders.
 const LOADERS: u32 = 8;
-
-/// The most sessions in threads of their own.
-const MOST_SESSIONS: u64 = 64;
 
 /// How long a client is waited for, in seconds.
 const WAIT_SECONDS: u64 = 30;
@@ -42,6 +42,9 @@ const END_SECONDS: u64 = 2;
 
 const END_PIECES: u32 = 64;
 
+/// How long a thread pauses that got no connection, in milliseconds: the system may lack room for one just now.
+const PAUSE_MILLIS: u64 = 10;
+
 /// Why a server ended.
 #[derive(Clone, Copy, Debug, PartialEq, Eq)]
 pub enum ServeEnd {
@@ -49,26 +52,6 @@ pub enum ServeEnd {
     NotBound,
     /// Memory was refused.
     NoMemory,
-}
-
-// A place among the sessions that run, which is given back when it is dropped.
-struct Seat<'a> {
-    taken: &'a AtomicU64,
-}
-
-impl<'a> Drop for Seat<'a> {
-    fn drop(self) {
-        let Self { taken } = self;
-        taken.fetch_sub(1, Ordering::SeqCst);
-    }
-}
-
-fn take_seat(taken: &AtomicU64) -> Option<Seat<'_>> {
-    if taken.fetch_add(1, Ordering::SeqCst) < MOST_SESSIONS {
-        return Some(Seat { taken });
-    }
-    taken.fetch_sub(1, Ordering::SeqCst);
-    None
 }
 
 /// Serves the address and the port of the configuration until the process is ended.
@@ -102,7 +85,7 @@ fn bind<R: Net>(rt: &R, conf: &Conf) -> io::Result<R::Listener> {
     }
 }
 
-// The loaders, and a session for each connection.
+// The loaders, and the threads that serve connections.
 fn run<R, S, K, P, O>(
     rt: &R,
     alloc: Global,
@@ -120,8 +103,8 @@ where
     requires serves { S.tells ≡ true → ServesTargets house.now S.serves }
     requires honest { S.tells ≡ true → IsHonest S.Site }
 {
-    let taken = AtomicU64::new(0);
-    let taken = &taken;
+    let crew = Crew::new();
+    let crew = &crew;
     thread::scope(
         thread::scope_env(),
         rt,
@@ -142,29 +125,74 @@ where
             if alone {
                 pool.close();
             }
-            for stream in listener.incoming() {
-                let Ok(stream) = stream else {
-                    continue;
-                };
-                let Some(seat) = take_seat(taken) else {
-                    connect::<R, S, K, P, O>(rt, alloc, house, origin, pool, stream);
-                    continue;
-                };
+            for _ in rt.forever() {
+                crew.await_call(rt);
                 let started = scope.spawn(
                     move ||
                         requires { (S.tells ≡ true → ServesTargets house.now S.serves) × (S.tells ≡ true → IsHonest S.Site) }
-                    {
-                        connect::<R, S, K, P, O>(rt, alloc, house, origin, pool, stream);
-                        drop(seat);
-                    },
+                    { serve_all::<R, S, K, P, O>(rt, alloc, house, origin, pool, listener, crew) },
                 );
-                if let Err(refused) = started {
-                    (refused.value)();
+                if started.is_err() {
+                    serve_next::<R, S, K, P, O>(rt, alloc, house, origin, pool, listener, crew);
+                    crew.leave(rt);
                 }
             }
             pool.close();
         },
     );
+}
+
+// Serves one connection after another.
+fn serve_all<R, S, K, P, O>(
+    rt: &R,
+    alloc: Global,
+    house: &House<S, K, P>,
+    origin: &O,
+    pool: &Pool<&R, S, K, P>,
+    listener: &TcpListener,
+    crew: &Crew,
+)
+where
+    R: Net<Stream = TcpStream, Listener = TcpListener> + Wait + TimeSource,
+    S: Site,
+    K: Keeper,
+    P: OriginSlip,
+    O: Origin<S, Slip = P>,
+    requires serves { S.tells ≡ true → ServesTargets house.now S.serves }
+    requires honest { S.tells ≡ true → IsHonest S.Site }
+{
+    for _ in rt.forever() {
+        serve_next::<R, S, K, P, O>(rt, alloc, house, origin, pool, listener, crew);
+    }
+}
+
+// Waits for a connection and serves it.
+fn serve_next<R, S, K, P, O>(
+    rt: &R,
+    alloc: Global,
+    house: &House<S, K, P>,
+    origin: &O,
+    pool: &Pool<&R, S, K, P>,
+    listener: &TcpListener,
+    crew: &Crew,
+)
+where
+    R: Net<Stream = TcpStream, Listener = TcpListener> + Wait + TimeSource,
+    S: Site,
+    K: Keeper,
+    P: OriginSlip,
+    O: Origin<S, Slip = P>,
+    requires serves { S.tells ≡ true → ServesTargets house.now S.serves }
+    requires honest { S.tells ≡ true → IsHonest S.Site }
+{
+    match listener.accept() {
+        Ok((stream, _)) => {
+            crew.take(rt);
+            connect::<R, S, K, P, O>(rt, alloc, house, origin, pool, stream);
+            crew.rest(rt);
+        }
+        Err(_) => thread::sleep(rt, Duration::from_millis(PAUSE_MILLIS)),
+    }
 }
 
 // One connection. What can't be set up is closed unanswered.
@@ -188,9 +216,17 @@ where
     if set_up(&stream).is_err() {
         return;
     }
-    let mut client = StdLink::new(&stream, &stream);
+    let Ok(mut client) = HeldLink::new(alloc, StdLink::new(&stream, &stream)) else {
+        return;
+    };
     let mut clock = HostClock::new(rt);
-    let _ = session(rt, alloc, house, origin, pool, &mut clock, &mut client);
+    let told = session(rt, alloc, house, origin, pool, &mut clock, &mut client);
+    match told.stop {
+        SessionStop::ClientFault => {}
+        _ => {
+            let _ = client.flush();
+        }
+    }
     let _ = end(&stream);
 }
 
