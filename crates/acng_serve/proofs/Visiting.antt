@@ -87,7 +87,7 @@ module _ {S Q : Type 0} (s : SiteGhosts S) (tells : Bool) (conf : Settings) (m :
         → Told now note → AnswersAt s tells conf m r now old new note io
     visited none x lawful t =
         let read : answered_as {Q = Q} conf m (world_of s old now) r ≡ None =
-            ap (by_target conf m (world_of s old now) r) way.read ∙ ap (by_visit m) way.visit ∙ none in
+        ap (by_target conf m (world_of s old now) r) way.read ∙ ap (by_visit m) way.visit ∙ none in
         record {
           exact = λ k free. subst (λ o. IfSome o (λ a. Gives a.answer note io)) (sym read) tt;
           page = subst (VisitsBy tells conf m now old new note io) (sym way.read) (subst (Visits tells m now old new note io) (sym way.visit) x);
@@ -159,8 +159,11 @@ module _ {Q : Type 0} (m : Manner) (page : PageSeen) (run : Option (ExpireLine Q
   pub page_sent : note ≡ record
       { status = 200; cause = cause.Page page run; label = None; entry = None; part = None; sent = sent; whole = true }
       → sent ≡ length (page_reply m page.bytes).body → WroteAll (page_reply m page.bytes) io → Gives (paged m page run) note io
-  page_sent is count wrote = inl (is ∙ ap (λ n. record
-      { status = 200; cause = cause.Page page run; label = None; entry = None; part = None; sent = n; whole = true }) count, wrote)
+  page_sent is count wrote = inl (
+    is ∙ ap (λ n. record
+        { status = 200; cause = cause.Page page run; label = None; entry = None; part = None; sent = n; whole = true }) count,
+    wrote,
+  )
 
   -- a front of it
   pub page_broke : note ≡ record

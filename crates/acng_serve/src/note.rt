@@ -25,7 +25,10 @@ pub enum Cause<Q> {
     /// The client has the file.
     NotModified,
     /// The range begins at the end of a file of so many bytes, or past it.
-    NoPart { from: u64, total: u64 },
+    NoPart {
+        from: u64,
+        total: u64,
+    },
     /// The request's head was refused.
     Head(HeadFault),
     /// A tunnel is asked for.

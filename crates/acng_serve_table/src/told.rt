@@ -58,7 +58,11 @@ fn page_text(
         let len = first.len();
         return Ok(format!(in alloc; "Page {len}")?);
     };
-    let same = if run.as_bytes() == first { "its line" } else { "another line" };
+    let same = if run.as_bytes() == first {
+        "its line"
+    } else {
+        "another line"
+    };
     let moment = run.moment().0;
     match run.slip() {
         Some(slip) => {
