@@ -19,6 +19,7 @@ test:
 	bash tests/desk_table.sh
 	bash tests/report.sh
 	bash tests/expire.sh
+	bash tests/import.sh
 	bash tests/folder_syncs.sh
 	bash tests/debian_index.sh
 	bash tests/reach_table.sh

@@ -18,6 +18,11 @@ pub fn path_of(path: &Text) -> &str {
     str::from_utf8(path.as_bytes()).unwrap_or("")
 }
 
+/// Whether a word names a configuration file.
+pub fn is_conf_option(word: &Text) -> bool {
+    word.as_bytes().starts_with(b"--conf")
+}
+
 /// The configuration file. None where it isn't there under its default name.
 pub fn open_conf(
     files: &impl Files<File = File>,

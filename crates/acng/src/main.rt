@@ -1,27 +1,26 @@
 //! The program `acng`.
 //!
 //! `acng once` reads one request from standard input, answers it from the cache folder or by asking the origins over TCP,
-//! and writes the reply to standard output. `acng serve` does so for every connection to a port, many at a time. `acng report`
-//! prints what the cache folder holds, `acng expire` removes from it what no index has named for too long, and
-//! `acng check-conf` prints what is wrong with a configuration. This file only hands the words, the streams, the files, the
-//! clock and the sockets over: what is done is `run_single`'s, `serve`'s, `run_report`'s, `run_expire`'s and `run_maint`'s.
+//! and writes the reply to standard output. `acng serve` does so for every connection to a port, many at a time. The commands
+//! of maintenance print to standard output, and end: `report`, `expire`, `import` and `check-conf`. This file and those beside
+//! it only hand the words, the streams, the files, the clock and the sockets over: what is done is `run_single`'s, `serve`'s and
+//! `run_maint`'s.
 #![tactic(auto)]
 
 mod cache;
 mod files;
+mod maint;
 
-use acng_base::{FileFault, HostClock, NoMemory, Source, StdLink, StdSink, StdSource, Text};
-use acng_cli::status::{CONFIGURATION, DONE, FAILED, KEEPER, NO_MEMORY};
-use acng_cli::{
-    Command, Opened, Words, WordsFault, open_desk, read_words, run_expire, run_maint, run_report,
-    run_single,
-};
+use acng_base::{FileFault, HostClock, NoMemory, Source, StdLink, StdSource, Text};
+use acng_cli::status::{FAILED, KEEPER, NO_MEMORY};
+use acng_cli::{Command, Opened, Words, WordsFault, open_desk, read_words, run_single};
 use acng_conf::ListFile;
 use acng_keeper::{FolderKeeper, OpenFault};
 use acng_serve::{House, ServeEnd, serve};
 use acng_site::NetOrigin;
 use cache::open_cache;
-use files::{lists_beside, open_conf, path_of};
+use files::{is_conf_option, lists_beside, open_conf, path_of};
+use maint::{check_conf, import, maintain, over_nothing, without};
 use std::net::{Net, TcpListener, TcpStream};
 use std::process::ExitCode;
 use std::sync::Wait;
@@ -42,22 +41,29 @@ fn run<R: Net<Stream = TcpStream, Listener = TcpListener> + Threads + Wait + Clo
     server: &R,
     words: &[Text],
 ) -> u8 {
-    let read = match read_words(rt.alloc(), words) {
-        Ok(read) => read,
-        Err(WordsFault::NoMemory) => return NO_MEMORY,
-        Err(_) => return over_nothing(rt, words),
-    };
-    let status = match read.command {
-        Command::Once | Command::Report | Command::Expire | Command::Serve => {
-            over_cache(rt, server, words, &read)
-        }
-        Command::CheckConf => check_conf(rt, words, &read.conf),
-        _ => Ok(over_nothing(rt, words)),
+    let status = match read_words(rt.alloc(), words) {
+        Ok(read) => run_read(rt, server, words, &read),
+        Err(WordsFault::NoMemory) => Err(FileFault::NoMemory),
+        Err(_) => over_nothing(rt, words),
     };
     match status {
         Ok(status) => status,
         Err(FileFault::Failed) => FAILED,
         Err(FileFault::NoMemory) => NO_MEMORY,
+    }
+}
+
+// The same of words that were read.
+fn run_read<R: Net<Stream = TcpStream, Listener = TcpListener> + Threads + Wait + Clock + Sync>(
+    rt: &HostRuntime,
+    server: &R,
+    words: &[Text],
+    read: &Words,
+) -> Result<u8, FileFault> {
+    match read.command {
+        Command::CheckConf => check_conf(rt, words, &read.conf),
+        Command::Gen(_) => over_nothing(rt, words),
+        _ => over_cache(rt, server, words, read),
     }
 }
 
@@ -76,7 +82,7 @@ fn words_of(rt: &HostRuntime) -> Result<Vec<Text>, NoMemory> {
     Ok(words)
 }
 
-// ---- once, serve, report, expire
+// ---- over the cache folder
 
 // A command over the cache folder, by the configuration that the words name.
 fn over_cache<R: Net<Stream = TcpStream, Listener = TcpListener> + Threads + Wait + Clock + Sync>(
@@ -110,13 +116,13 @@ fn over_cache_by<
     let keeper = match open_cache(rt, path_of(&read.cache), waits) {
         Ok(keeper) => keeper,
         Err(OpenFault::NoMemory) => return Err(FileFault::NoMemory),
-        Err(_) => return without_cache(rt, read, &mut conf, lists),
+        Err(_) => return without(rt, read, &mut conf, lists, KEEPER),
     };
     match read.command {
-        Command::Report => report(rt, words, keeper, &mut conf, lists),
-        Command::Expire => expire(rt, words, keeper, &mut conf, lists),
+        Command::Once => answer(rt, words, keeper, &mut conf, lists),
         Command::Serve => serve_clients(rt, server, words, keeper, &mut conf, lists),
-        _ => answer(rt, words, keeper, &mut conf, lists),
+        Command::Import => import(rt, words, read, keeper, &mut conf, lists),
+        _ => maintain(rt, words, keeper, &mut conf, lists),
     }
 }
 
@@ -172,89 +178,4 @@ fn serve_clients<
         }
         Opened::Ended(ended) => Ok(ended.status),
     }
-}
-
-// What is held, printed to standard output. Nobody is asked for anything.
-fn report<I: Source>(
-    rt: &HostRuntime,
-    words: &[Text],
-    keeper: FolderKeeper<HostRuntime>,
-    conf: &mut I,
-    lists: &[ListFile],
-) -> Result<u8, FileFault> {
-    let (_origin, right) = NetOrigin::start(rt.clone()?);
-    let mut out = StdSink::new(rt.stdout());
-    let ended = run_report(rt.alloc(), words, keeper, right, conf, lists, &mut out);
-    Ok(ended.status)
-}
-
-// One run of expiration by the machine's clock. Nobody is asked for anything.
-fn expire<I: Source>(
-    rt: &HostRuntime,
-    words: &[Text],
-    keeper: FolderKeeper<HostRuntime>,
-    conf: &mut I,
-    lists: &[ListFile],
-) -> Result<u8, FileFault> {
-    let (_origin, right) = NetOrigin::start(rt.clone()?);
-    let mut clock = HostClock::new(rt.clone()?);
-    let mut out = StdSink::new(rt.stdout());
-    let ended = run_expire(
-        rt.alloc(),
-        words,
-        keeper,
-        right,
-        conf,
-        lists,
-        &mut clock,
-        &mut out,
-    );
-    Ok(ended.status)
-}
-
-// The status where the cache folder can't be opened: that of a configuration that is refused goes first, and a command that
-// prints prints the refusal.
-fn without_cache<I: Source>(
-    rt: &HostRuntime,
-    read: &Words,
-    conf: &mut I,
-    lists: &[ListFile],
-) -> Result<u8, FileFault> {
-    let words = [Text::copy(rt.alloc(), b"check-conf")?];
-    let mut nowhere = StdSink::new(io::sink());
-    match run_maint(rt.alloc(), &words, conf, lists, &mut nowhere) {
-        DONE => Ok(KEEPER),
-        CONFIGURATION if prints(read.command) => check_conf(rt, &words, &read.conf),
-        status => Ok(status),
-    }
-}
-
-fn prints(command: Command) -> bool {
-    command == Command::Report || command == Command::Expire
-}
-
-// ---- check-conf
-
-// What is wrong with the configuration, printed to standard output.
-fn check_conf(rt: &HostRuntime, words: &[Text], path: &Text) -> Result<u8, FileFault> {
-    let alloc = rt.alloc();
-    let path = path_of(path);
-    let Some(file) = open_conf(rt, path, !words.iter().any(is_conf_option))? else {
-        return Ok(over_nothing(rt, words));
-    };
-    let lists = lists_beside(rt, alloc, path)?;
-    let mut out = StdSink::new(rt.stdout());
-    let mut conf = StdSource::new(file);
-    Ok(run_maint(alloc, words, &mut conf, &lists, &mut out))
-}
-
-// A command of maintenance over the empty configuration; of other words what is wrong with them is printed.
-fn over_nothing(rt: &HostRuntime, words: &[Text]) -> u8 {
-    let mut out = StdSink::new(rt.stdout());
-    let mut nothing = StdSource::new(io::empty());
-    run_maint(rt.alloc(), words, &mut nothing, &[], &mut out)
-}
-
-fn is_conf_option(word: &Text) -> bool {
-    word.as_bytes().starts_with(b"--conf")
 }

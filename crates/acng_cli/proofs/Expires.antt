@@ -1,8 +1,6 @@
--- A run of expiration leaves a desk of which no ticket is out; and what `expire` says where no configuration was read.
-use Rattle.std.proofs.Common.{◌≡◌, ◌⊎◌, inl, inr, ℕ, ◌+◌, Bool, true, false, List, take, cond}
+-- A run of expiration leaves a desk of which no ticket is out; and what the keeper has after it.
+use Rattle.std.proofs.Common.{◌≡◌, inl, inr, ℕ, ◌+◌, Bool, true, false, List, take, cond}
 use Rattle.std.proofs.Common.{Option, Some, None, refl, sym, subst, ap, ◌∙◌}
-use Rattle.acng_base.specs.declared.stream.Sink.{Ghosts as SinkGhosts}
-use Rattle.acng_site.specs.declared.site.Site.{Ghosts as SiteGhosts}
 use Rattle.acng_keeper.specs.Kept.{Kept}
 use Rattle.acng_keeper.specs.Slips.{Faults}
 use Rattle.acng_rows.specs.Rows.{Row, out_in}
@@ -14,12 +12,8 @@ use Rattle.acng_expire.specs.Expirations.{HasExpired, IsFinished, IsCutIn, IsCut
 use Rattle.acng_expire.specs.declared.run.Expired.{Expired}
 use Rattle.acng_expire.specs.declared.run.Expired.TheVariants as run
 use Rattle.acng_expire.proofs.Ends.{plain_is}
-use Rattle.acng_cli.specs.declared.opening.Maint.{Maint}
-use Rattle.acng_cli.specs.declared.words.Words.{Words}
-use Rattle.acng_cli.specs.Opens.{Store, Given, idle}
+use Rattle.acng_cli.specs.Opens.{Store}
 use Rattle.acng_cli.specs.Single.{store_in}
-use Rattle.acng_cli.specs.Expire.{Around, RanExpire}
-use Rattle.acng_cli.proofs.Reports.{reads_none, stays_idle}
 
 -- ---- no ticket of a place is out
 
@@ -107,17 +101,3 @@ pub store_left : (kept : Kept) (next_id : ℕ) (faults : Faults) (h : House) →
 store_left kept next_id faults h same_kept same_next same_faults =
     ap (λ x. store_of x next_id faults) same_kept ∙ ap (λ x. store_of h.kept x faults) same_next
     ∙ ap (λ x. store_of h.kept h.plain.next_id x) same_faults
-
--- ---- no configuration was read
-
-module _ {S W K Q : Type 0} (s : SiteGhosts S) (tells : Bool) (w : SinkGhosts W) (store : K → Store) (g : Given) (before after : ℕ)
-    (keeper : K) (old : Around W) where
-  abbrev Ran : Around W → Option Words → Maint K Q → Type 0
-  Ran new o e = RanExpire s tells w store g before after keeper old new o e
-
-  -- the words don't name `expire`, or memory was refused before they were read
-  pub ran_idle : (o : Option Words) (status : ℕ) (e : Maint K Q) → (status ≡ 6) ⊎ ((status ≡ 2) × (o ≡ None)) → e ≡ idle status keeper
-      → Ran old o e
-  ran_idle (Some asked) status e (inl six) is = inr (inr (reads_none before after keeper old status e (inr six) is))
-  ran_idle None status e (inl six) is = stays_idle keeper old status e (inr six) is
-  ran_idle o status e (inr (two, none)) is = subst (λ x. Ran old x e) (sym none) (stays_idle keeper old status e (inl two) is)

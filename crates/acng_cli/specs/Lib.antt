@@ -1,7 +1,9 @@
 pub mod Expire
+pub mod Imports
 pub mod Maint
 pub mod Once
 pub mod Opens
 pub mod Report
 pub mod Single
+pub mod Tasks
 pub mod Words

@@ -1,11 +1,12 @@
 //! The program's commands, as calls over any link, source, sink, origin, keeper, clock and site.
 //!
 //! `once` opens a desk over a keeper, reads one request from a link, answers it and writes one reply. `report` prints what a
-//! desk holds, `expire` makes a run of expiration over it, and `check-conf` prints what is wrong with a configuration. The
-//! words of the command line are read by `clap`.
+//! desk holds, `expire` makes a run of expiration over it, `import` lets found files in, and `check-conf` prints what is wrong
+//! with a configuration. The words of the command line are read by `clap`.
 #![tactic(auto)]
 
 mod expire;
+mod imports;
 mod maint;
 mod once;
 mod opening;
@@ -14,12 +15,11 @@ mod report;
 mod single;
 mod source;
 pub mod status;
+mod task;
 mod words;
 
-pub use expire::run_expire;
 pub use maint::run_maint;
 pub use once::{Once, OnceStop, run_once};
 pub use opening::{Maint, Opened, open_desk};
-pub use report::run_report;
 pub use single::{Single, run_single};
 pub use words::{Command, Words, WordsFault, read_words};

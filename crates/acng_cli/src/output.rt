@@ -1,16 +1,17 @@
 //! What a command of maintenance prints, and the status that goes with it.
-ghost use Rattle.std.specs.Prelude.{◌≡◌, ◌≢◌, ◌≤◌, ◌⊎◌, List, ℕ, Ok, Err, IfOk, IfSome, OnOk, codes};
-ghost use Rattle.acng_base.specs.Causes.{Rose};
-ghost use Rattle.acng_conf.specs.Readings.{reading};
-ghost use Rattle.acng_cli.specs.Words.{words_of};
-ghost use Rattle.acng_cli.specs.Maint.{fault_name as name_of, words_line as line_of, of_words, of_command, of_conf, ReadsFew};
+//!
+//! Nothing is printed before the whole text is there.
+ghost use Rattle.std.specs.Prelude.{◌≡◌, Ok, Err, IfOk};
+ghost use Rattle.acng_cli.specs.Maint.{broken_status as broken_status_of, fault_name as name_of, words_output, of_conf, Prints, PrintsUnless};
 
-use crate::source::read_settings;
-use crate::status::{CONFIGURATION, DONE, WORDS};
-use crate::words::{Command, WordsFault, read_words};
-use acng_base::{FileFault, NoMemory, Source, Text};
-use acng_conf::{Conf, ConfFault, ListFile, print_conf, print_fault};
+use crate::status::{CONFIGURATION, DONE, FAILED, NO_MEMORY, WORDS};
+use crate::words::WordsFault;
+use acng_base::{Failed, NoMemory, Sink, Text, write_all};
+use acng_conf::{Conf, ConfFault, print_conf, print_fault};
 use std::alloc::Global;
+
+/// Where a found file was left out of an import, or no id was left for its body.
+pub const LEFT_OUT: u8 = 7;
 
 /// The text, and the status.
 #[derive(Debug, Drop)]
@@ -19,51 +20,54 @@ pub struct Output {
     pub text: Text,
 }
 
-// What is printed of the words alone. None where they ask for a configuration to be checked.
-pub(crate) fn words_output(alloc: Global, words: &[Text]) -> Result<Option<Output>, NoMemory>
-    ensures output { IfOk result (λ output. output ≡ of_words (words_of words.now)) }
-    ensures status { IfOk result (λ output. IfSome output (λ o. o.status ≡ 2)) }
+/// Prints it. The status is its own; a failed output has a status of its own where all was done, or a found file was left out.
+pub(crate) fn print<W: Sink>(output: Output, out: &mut W) -> u8
+    ensures { Prints W.Sink output result out.old out.new }
 {
-    match read_words(alloc, words) {
-        Ok(words) => command_output(alloc, words.command),
-        Err(WordsFault::NoMemory) => Err(NoMemory),
-        Err(fault) => fault_output(alloc, fault),
+    match write_all(out, output.text.as_bytes()) {
+        Ok(()) => output.status,
+        Err(Failed) => broken_status(output.status),
     }
 }
 
-fn command_output(alloc: Global, command: Command) -> Result<Option<Output>, NoMemory>
-    ensures output { IfOk result (λ output. output ≡ of_command command) }
-    ensures status { IfOk result (λ output. IfSome output (λ o. o.status ≡ 2)) }
+fn broken_status(status: u8) -> u8
+    ensures { result ≡ broken_status_of status }
 {
-    match command {
-        Command::CheckConf => Ok(None),
-        _ => words_line(alloc, b"Other"),
+    if status == DONE || status == LEFT_OUT {
+        FAILED
+    } else {
+        status
     }
 }
 
-fn fault_output(alloc: Global, fault: WordsFault) -> Result<Option<Output>, NoMemory>
-    ensures output { IfOk result (λ output. output ≡ of_words (Err fault)) }
-    ensures status { IfOk result (λ output. IfSome output (λ o. o.status ≡ 2)) }
+// ---- words
+
+/// Prints what is wrong with the words, and gives the status.
+pub(crate) fn print_words<W: Sink>(alloc: Global, name: &[u8], out: &mut W) -> u8
+    ensures { PrintsUnless W.Sink (words_output name.now) result out.old out.new }
 {
-    words_line(alloc, fault_name(fault))
+    match words_output(alloc, name) {
+        Ok(output) => print(output, out),
+        Err(NoMemory) => NO_MEMORY,
+    }
 }
 
 // The line of words that are refused.
-fn words_line(alloc: Global, name: &[u8]) -> Result<Option<Output>, NoMemory>
-    ensures output { IfOk result (λ output. output ≡ line_of name.now) }
-    ensures status { IfOk result (λ output. IfSome output (λ o. o.status ≡ 2)) }
+fn words_output(alloc: Global, name: &[u8]) -> Result<Output, NoMemory>
+    ensures { IfOk result (λ output. output ≡ words_output name.now) }
 {
     let mut line = Vec::new(alloc);
     line.extend_from_slice(b"words: ")?;
     line.extend_from_slice(name)?;
     line.push(b'\n')?;
-    Ok(Some(Output {
+    Ok(Output {
         status: WORDS,
         text: Text::of(line),
-    }))
+    })
 }
 
-fn fault_name(fault: WordsFault) -> &'static [u8]
+/// Why words aren't read, by its printed name.
+pub(crate) fn fault_name(fault: WordsFault) -> &'static [u8]
     ensures { result.now ≡ name_of fault }
 {
     match fault {
@@ -75,39 +79,37 @@ fn fault_name(fault: WordsFault) -> &'static [u8]
     }
 }
 
-// What is printed of the configuration.
-pub(crate) fn conf_output<I: Source>(
-    alloc: Global,
-    source: &mut I,
-    lists: &[ListFile],
-) -> Result<Output, FileFault>
-    ensures output { IfOk result (λ output. IfSome (I.left source.old) (λ text. output ≡ of_conf (reading text lists.now))) }
-    ensures status { IfOk result (λ output. (output.status ≡ 0) ⊎ (output.status ≡ 3)) }
-    ensures failed { result ≡ Err FileFault.Failed → Rose (I.faults source.old) (I.faults source.new) }
-    ensures later { I.faults source.old ≤ I.faults source.new }
-    ensures reads { ReadsFew (I.left source.old) (I.left source.new) }
+// ---- a configuration
+
+/// Prints what a configuration says, and gives the status.
+pub(crate) fn print_accepted<W: Sink>(alloc: Global, conf: &Conf, out: &mut W) -> u8
+    ensures { PrintsUnless W.Sink (of_conf (Ok conf.now)) result out.old out.new }
 {
-    let printed = match read_settings(alloc, source, lists)? {
-        Ok(conf) => accepted(alloc, &conf),
-        Err(fault) => refused(alloc, fault),
-    };
-    let Ok(output) = printed else {
-        return Err(FileFault::NoMemory);
-    };
-    Ok(output)
+    match accepted(alloc, conf) {
+        Ok(output) => print(output, out),
+        Err(NoMemory) => NO_MEMORY,
+    }
 }
 
 fn accepted(alloc: Global, conf: &Conf) -> Result<Output, NoMemory>
-    ensures output { IfOk result (λ output. output ≡ of_conf (Ok conf.now)) }
-    ensures status { IfOk result (λ output. output.status ≡ 0) }
+    ensures { IfOk result (λ output. output ≡ of_conf (Ok conf.now)) }
 {
     let text = print_conf(alloc, conf)?;
     Ok(Output { status: DONE, text })
 }
 
-pub(crate) fn refused(alloc: Global, fault: ConfFault) -> Result<Output, NoMemory>
-    ensures output { IfOk result (λ output. output ≡ of_conf (Err fault)) }
-    ensures status { IfOk result (λ output. output.status ≡ 3) }
+/// Prints what is wrong with a configuration, and gives the status.
+pub(crate) fn print_refusal<W: Sink>(alloc: Global, fault: ConfFault, out: &mut W) -> u8
+    ensures { PrintsUnless W.Sink (of_conf (Err fault)) result out.old out.new }
+{
+    match refused(alloc, fault) {
+        Ok(output) => print(output, out),
+        Err(NoMemory) => NO_MEMORY,
+    }
+}
+
+fn refused(alloc: Global, fault: ConfFault) -> Result<Output, NoMemory>
+    ensures { IfOk result (λ output. output ≡ of_conf (Err fault)) }
 {
     let text = print_fault(alloc, fault)?;
     Ok(Output {

@@ -9,7 +9,7 @@ use std::marker::Model;
 /// A keeper, of which all that it has may be served. It is seen as the number of its next body.
 #[derive(Drop)]
 pub struct Cache {
-    keeper: MemoryKeeper,
+    pub keeper: MemoryKeeper,
 }
 
 impl Model for Cache {

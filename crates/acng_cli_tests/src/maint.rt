@@ -1,7 +1,10 @@
-//! The words of the command line, and what `check-conf` prints. Expected values are written from the rules by hand.
-use acng_base::{MemorySink, MemorySource, NoMemory, Text};
+//! The words of the command line, and what the commands of maintenance print. Expected values are written from the rules by hand.
+use crate::cache::Cache;
+use acng_base::{FixedClock, MemorySink, MemorySource, NoMemory, Text, Texts};
 use acng_cli::{Command, WordsFault, read_words, run_maint};
 use acng_conf::ListFile;
+use acng_import::MemoryFinder;
+use acng_site::{MemoryOrigin, NoGate, Untold};
 use std::alloc::Global;
 use std::test::Fail;
 
@@ -70,11 +73,23 @@ struct Streams {
     room: usize,
     failing_read: u64,
     failing_write: u64,
+    failing_find: u64,
 }
 
 const NEVER: u64 = 1_000_000;
 
-// The status, and what was printed.
+// Two found files, of which no index names one.
+fn found(alloc: Global, fail: u64) -> Result<MemoryFinder, NoMemory> {
+    let mut names = Texts::new(alloc);
+    names.push(alloc, b"new.deb")?;
+    names.push(alloc, b"odd name\xff")?;
+    let mut bodies = Texts::new(alloc);
+    bodies.push(alloc, b"abc")?;
+    bodies.push(alloc, b"")?;
+    MemoryFinder::new(alloc, &names, &bodies, &[fail])
+}
+
+// The status, and what was printed, over a cache that has nothing.
 fn run(
     alloc: Global,
     words: &[&[u8]],
@@ -89,15 +104,29 @@ fn run(
     let cut = streams.cut.max(1);
     let mut source = MemorySource::new(alloc, conf, cut, &[streams.failing_read])?;
     let mut sink = MemorySink::new(alloc, streams.room, cut, &[streams.failing_write])?;
-    let status = run_maint(alloc, words.as_slice(), &mut source, &[list], &mut sink);
-    Ok((status, Vec::from_slice(alloc, sink.written())?))
+    let mut finder = found(alloc, streams.failing_find)?;
+    let mut clock = FixedClock::new(alloc, &[1000])?;
+    let (_origin, right) = MemoryOrigin::<Untold, NoGate>::start(alloc, &[], cut, NoGate)?;
+    let Cache { keeper } = Cache::new(alloc, &[])?;
+    let ended = run_maint(
+        alloc,
+        words.as_slice(),
+        keeper,
+        right,
+        &mut source,
+        &[list],
+        &mut finder,
+        &mut clock,
+        &mut sink,
+    );
+    Ok((ended.status, Vec::from_slice(alloc, sink.written())?))
 }
 
 #[test]
-fn check_conf_says_what_is_wrong(rt: HostRuntime) -> Result<(), Fail> {
+fn commands_say_what_they_did(rt: HostRuntime) -> Result<(), Fail> {
     let alloc = rt.alloc();
     let check: &[&[u8]] = &[b"check-conf"];
-    let rows: [(&[&[u8]], &[u8], u8, &[u8]); 9] = [
+    let rows: [(&[&[u8]], &[u8], u8, &[u8]); 14] = [
         (check, b"", 0, b"ok groups 0 warnings 0\n"),
         (check, b"Port: 70000\n", 3, b"line 1: BadNumber\n"),
         (check, b"# none\n\nPort 80", 3, b"line 3: NotALine\n"),
@@ -117,6 +146,16 @@ fn check_conf_says_what_is_wrong(rt: HostRuntime) -> Result<(), Fail> {
         (&[b"once"], b"", 2, b"words: Other\n"),
         (&[b"gen", b"0"], b"", 2, b"words: NotRead\n"),
         (&[b"expire", b"3"], b"", 2, b"words: StrayNumber\n"),
+        (&[b"report"], b"", 0, b"rows 0 bytes 0\n"),
+        (&[b"expire"], b"", 0, b"done removed 0 marked 0\n"),
+        (
+            &[b"import"],
+            b"",
+            0,
+            b"unknown new.deb\nunknown odd?name?\n",
+        ),
+        (&[b"import"], b"Port: 70000\n", 3, b"line 1: BadNumber\n"),
+        (&[b"report"], b"Port: 70000\n", 3, b"line 1: BadNumber\n"),
     ];
     for row in rows {
         for cut in [1, 7, 4096] {
@@ -125,6 +164,7 @@ fn check_conf_says_what_is_wrong(rt: HostRuntime) -> Result<(), Fail> {
                 room: 4096,
                 failing_read: NEVER,
                 failing_write: NEVER,
+                failing_find: NEVER,
             };
             let (status, printed) = run(alloc, row.0, row.1, streams)?;
             assert_eq!(rt; status, row.2);
@@ -152,6 +192,7 @@ fn a_stream_that_fails_is_said_to_fail(rt: HostRuntime) -> Result<(), Fail> {
             room: row.2,
             failing_read: row.0,
             failing_write: row.1,
+            failing_find: NEVER,
         };
         let (status, printed) = run(alloc, &[b"check-conf"], b"# none", streams)?;
         assert_eq!(rt; status, 4);
@@ -164,11 +205,13 @@ fn a_stream_that_fails_is_said_to_fail(rt: HostRuntime) -> Result<(), Fail> {
 #[test]
 fn a_full_output_hides_no_other_status(rt: HostRuntime) -> Result<(), Fail> {
     let alloc = rt.alloc();
-    let rows: [(&[&[u8]], &[u8], u8); 4] = [
+    let rows: [(&[&[u8]], &[u8], u8); 6] = [
         (&[b"check-conf"], b"", 4),
         (&[b"serve"], b"", 2),
         (&[b"once", b"3"], b"", 2),
         (&[b"check-conf"], b"Port: 70000\n", 3),
+        (&[b"import"], b"", 4),
+        (&[b"import"], b"Port: 70000\n", 3),
     ];
     for row in rows {
         let streams = Streams {
@@ -176,10 +219,27 @@ fn a_full_output_hides_no_other_status(rt: HostRuntime) -> Result<(), Fail> {
             room: 5,
             failing_read: NEVER,
             failing_write: NEVER,
+            failing_find: NEVER,
         };
         let (status, printed) = run(alloc, row.0, row.1, streams)?;
         assert_eq!(rt; status, row.2);
         assert_eq!(rt; printed.len(), 5);
     }
+    Ok(())
+}
+
+// A found file that can't be read is said to be so; the next one is read.
+#[test]
+fn a_found_file_that_fails_is_said_to(rt: HostRuntime) -> Result<(), Fail> {
+    let streams = Streams {
+        cut: 4096,
+        room: 4096,
+        failing_read: NEVER,
+        failing_write: NEVER,
+        failing_find: 0,
+    };
+    let (status, printed) = run(rt.alloc(), &[b"import"], b"", streams)?;
+    assert_eq!(rt; status, 4);
+    assert_eq!(rt; printed.as_slice(), b"fault new.deb\nunknown odd?name?\n");
     Ok(())
 }

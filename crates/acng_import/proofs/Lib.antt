@@ -5,3 +5,4 @@ pub mod Filed
 pub mod Running
 pub mod Stepping
 pub mod Lines
+pub mod Faults

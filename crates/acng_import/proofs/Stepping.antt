@@ -11,7 +11,7 @@ use Rattle.acng_reach.specs.Paths.{IsPath}
 use Rattle.acng_reach.specs.Reaches.{is_named}
 use Rattle.acng_reach.specs.Sets.{same, among}
 use Rattle.acng_reach.specs.declared.index.Index.{Index}
-use Rattle.acng_import.specs.Steps.{May, AreEntering, OnlyEnters, MayHave, named_in}
+use Rattle.acng_import.specs.Steps.{May, AreEntering, OnlyEnters, MayHave, anywhere, named_in}
 
 pub none_entered : {may : May} {p q : Plain} → q ≡ p → OnlyEnters may p q
 none_entered is = record { calls = []; each = tt; made = is }
@@ -44,6 +44,10 @@ entered_both {may} {p} {q} {r} a b = record {
   each = all_both may a.calls b.calls a.each b.each;
   made = b.made ∙ ap (steps b.calls) a.made ∙ sym (steps_both a.calls b.calls p);
 }
+
+-- any path may have any file
+pub have_any : (hash : List ℕ) (size : ℕ) (paths : List (List ℕ)) → MayHave anywhere hash size paths
+have_any hash size paths = record { each = λ path is. refl }
 
 -- ---- the paths that want a file are among its names
 

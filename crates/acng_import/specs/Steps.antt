@@ -10,6 +10,10 @@ use Rattle.acng_reach.specs.declared.index.Index.{Index}
 abbrev pub May : Type 0
 May = List ℕ → List ℕ → ℕ → Bool
 
+-- any path may have it
+abbrev pub anywhere : May
+anywhere path hash size = true
+
 -- the indexes name it there
 abbrev pub named_in : List Index → May
 named_in xs path hash size = is_named xs hash size path

@@ -1,5 +1,6 @@
 //! How the import of found files ends.
 ghost use Rattle.std.specs.Prelude.{◌≡◌, ◌<◌, ◌++◌, ◌∷◌, [], length, slice_get, Some, OnOk};
+ghost use Rattle.acng_import.specs.Ends.{is_fault, is_left_out, has_fault, has_left_out};
 ghost use Rattle.acng_import.specs.Halts.{halt_of};
 
 use acng_base::{Hash, NoMemory, Texts};
@@ -68,6 +69,32 @@ impl FileEnds {
     {
         &self.items[i]
     }
+
+    /// Whether a read of a found file failed.
+    pub fn has_fault(&self) -> bool
+        ensures { result ≡ has_fault self.now }
+    {
+        self.items.iter().any(|end| is_fault(end))
+    }
+
+    /// Whether a file was too long, or had room for no further path.
+    pub fn has_left_out(&self) -> bool
+        ensures { result ≡ has_left_out self.now }
+    {
+        self.items.iter().any(|end| is_left_out(end))
+    }
+}
+
+fn is_fault(end: &FileEnd) -> bool
+    ensures { result ≡ is_fault end.now }
+{
+    matches!(end, FileEnd::FindFault)
+}
+
+fn is_left_out(end: &FileEnd) -> bool
+    ensures { result ≡ is_left_out end.now }
+{
+    matches!(end, FileEnd::TooLong | FileEnd::Full)
 }
 
 /// How an import ends.

@@ -1,11 +1,13 @@
 //! The import of one found file.
-ghost use Rattle.std.specs.Prelude.{◌≡◌, ◌<◌, ◌≤◌, ◌^◌, true, List, ℕ, length, IfErr};
+ghost use Rattle.std.specs.Prelude.{◌≡◌, ◌<◌, ◌≤◌, ◌^◌, true, false, List, ℕ, length, IfOk, IfErr};
+ghost use Rattle.acng_base.specs.Causes.{Rose};
 ghost use Rattle.acng_desk.specs.Calls.{IsSpare};
+ghost use Rattle.acng_import.specs.Ends.{is_fault};
 ghost use Rattle.acng_import.specs.Files.{file_at};
 ghost use Rattle.acng_import.specs.Halts.{MayHalt};
 ghost use Rattle.acng_import.specs.Imports.{enter, AreNamed, FileDid};
 ghost use Rattle.acng_import.specs.Looks.{shelf_of};
-ghost use Rattle.acng_import.specs.Steps.{OnlyEnters, named_in};
+ghost use Rattle.acng_import.specs.Steps.{OnlyEnters, anywhere, named_in};
 ghost use Rattle.acng_import.specs.Puts.{ends, IfDid, IsArrival};
 
 use crate::ending::{FileEnd, Halt, halt_of};
@@ -31,6 +33,7 @@ fn let_go<S: Site, K: Keeper, T: Joint>(
     requires number { (K.Body.handle body).number ≡ id.0 }
     requires spare { IsSpare K.tells desk.old id.0 }
     ensures did { IfDid (λ d. d ≡ ends end desk.old.plain) result desk.new.plain }
+    ensures end { IfOk result (λ e. e ≡ end) }
     ensures plain { desk.new.plain ≡ desk.old.plain }
 
     // A refusal, and whether calls may fail.
@@ -60,6 +63,8 @@ fn enter<S: Site, K: Keeper, T: Joint>(
     ensures did { K.tells ≡ true → IfDid (λ d. (paths : List (List ℕ)) × AreNamed reach.now.indexes arrival.hash.0 arrival.size paths
         × (d ≡ enter arrival id.0 (shelf_of desk.old) paths)) result desk.new.plain }
     ensures only { K.tells ≡ true → OnlyEnters (named_in reach.now.indexes) desk.old.plain desk.new.plain }
+    ensures enters { OnlyEnters anywhere desk.old.plain desk.new.plain }
+    ensures read { IfOk result (λ end. is_fault end ≡ false) }
 
     // A refusal, and whether calls may fail.
     ensures cause { IfErr result (MayHalt desk.old.faults.may_fail) }
@@ -96,6 +101,9 @@ pub fn import_file<S: Site, K: Keeper, T: Joint, F: Finder>(
     ensures did { K.tells ≡ true → F.tells ≡ true → IfDid (FileDid reach.now.indexes now (shelf_of desk.old)
         (file_at (F.bodies finder.old) i) (F.faults finder.old) (F.faults finder.new)) result desk.new.plain }
     ensures only { K.tells ≡ true → OnlyEnters (named_in reach.now.indexes) desk.old.plain desk.new.plain }
+    ensures enters { OnlyEnters anywhere desk.old.plain desk.new.plain }
+    ensures fault { IfOk result (λ end. is_fault end ≡ true → Rose (F.faults finder.old) (F.faults finder.new)) }
+    ensures later { F.faults finder.old ≤ F.faults finder.new }
     ensures same_names { F.names finder.new ≡ F.names finder.old }
     ensures same_bodies { F.bodies finder.new ≡ F.bodies finder.old }
 

@@ -38,6 +38,7 @@ pub fn fill<F: Finder, B: BodyFile>(
     ensures filled { IfOk result (λ f. FilledAs F.tells B.tells (file_at (F.bodies finder.old) i) (B.handle body.new)
         (F.faults finder.old) (F.faults finder.new) f) }
     ensures number { (B.handle body.new).number ≡ (B.handle body.old).number }
+    ensures later { F.faults finder.old ≤ F.faults finder.new }
     ensures same_names { F.names finder.new ≡ F.names finder.old }
     ensures same_bodies { F.bodies finder.new ≡ F.bodies finder.old }
     ensures cause { IfErr result (MaySlip (B.faults body.old).may_fail) }

@@ -1,9 +1,11 @@
 //! The import of all found files, in the finder's order.
 ghost use Rattle.std.specs.Prelude.{◌≡◌, true, length};
+ghost use Rattle.acng_base.specs.Causes.{Rose};
 ghost use Rattle.acng_reach.specs.Caches.{indexes};
 ghost use Rattle.acng_reach.specs.Desks.{cache_of};
+ghost use Rattle.acng_import.specs.Ends.{has_fault, ends_in};
 ghost use Rattle.acng_import.specs.Imports.{ImportsAs, MayStop};
-ghost use Rattle.acng_import.specs.Steps.{OnlyEnters, named_in};
+ghost use Rattle.acng_import.specs.Steps.{OnlyEnters, anywhere, named_in};
 
 use crate::ending::{FileEnds, Halt, Imported};
 use crate::file::import_file;
@@ -27,7 +29,12 @@ pub fn import<S: Site, K: Keeper, T: Joint, F: Finder>(
         (F.bodies finder.old) (length (F.names finder.old)) desk.old (F.faults finder.old) desk.new (F.faults finder.new) result }
     ensures only { K.tells ≡ true →
         OnlyEnters (named_in (indexes (cache_of K.tells desk.old))) desk.old.plain desk.new.plain }
+    ensures enters { OnlyEnters anywhere desk.old.plain desk.new.plain }
+    ensures same_names { F.names finder.new ≡ F.names finder.old }
+
+    // A slip, and the end of a file of which a read failed.
     ensures cause { MayStop desk.old.faults.may_fail result }
+    ensures fault { has_fault (ends_in result) ≡ true → Rose (F.faults finder.old) (F.faults finder.new) }
 {
     let mut ends = FileEnds::new(alloc);
     let reach = match Reach::of(alloc, desk, &[]) {

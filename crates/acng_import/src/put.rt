@@ -7,6 +7,7 @@ ghost use Rattle.acng_keeper.specs.Handles.{fresh};
 ghost use Rattle.acng_reach.specs.Bodies.{MaySlip};
 ghost use Rattle.acng_desk.specs.Calls.{IsSpare};
 ghost use Rattle.acng_desk.specs.Commands.{made, is_out_of_ids};
+ghost use Rattle.acng_import.specs.Ends.{is_fault};
 ghost use Rattle.acng_import.specs.Halts.{MayHalt};
 ghost use Rattle.acng_import.specs.Looks.{HasRead};
 ghost use Rattle.acng_import.specs.Steps.{May, OnlyEnters, MayHave};
@@ -182,6 +183,7 @@ pub fn put_all<S: Site, K: Keeper, T: Joint>(
     requires small { arrival.size ≤ 2 ^ 41 }
     requires file { IsArrival K.tells arrival (K.Body.handle body) }
     ensures did { IfDid (λ d. d ≡ put_all arrival id.0 desk.old.plain wanted.now) result desk.new.plain }
+    ensures read { IfOk result (λ end. is_fault end ≡ false) }
     ensures only { (may : May) → MayHave may arrival.hash.0 arrival.size wanted.now → OnlyEnters may desk.old.plain desk.new.plain }
 
     // A refusal, and whether calls may fail.

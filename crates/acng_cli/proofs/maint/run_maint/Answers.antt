@@ -1,20 +1,37 @@
-use Rattle.std.proofs.Common.{◌≡◌, ◌∙◌, ◌⊎◌, List, ℕ, Err, ap, refl, inl, inr}
-use Rattle.acng_conf.specs.Readings.{reading}
-use Rattle.acng_cli.specs.Maint.{Prints, FailsToRead, LacksMemory, of_conf}
-use Rattle.acng_cli.proofs.Cases.{if_all}
+use Rattle.std.proofs.Common.{◌∙◌, sym, subst, ap}
+use Rattle.acng_cli.specs.Maint.{of_words}
+use Rattle.acng_cli.specs.Tasks.{RanMaint}
+use Rattle.acng_cli.proofs.Tasks.{lacks}
 use Rattle.acng_cli.proofs.maint.run_maint.Goals as goal
 
--- nothing is printed, whatever the source holds
-pub returns-in-Err-Failed-clause-ran : goal.returns-in-Err-Failed-clause-ran
-returns-in-Err-Failed-clause-ran g c =
-    let is = c.in-Err-Failed.is ∙ ap Err c.in-Err-Failed.field-0-is in
-    let none = c.output_of.ensures.failed is in
-    let out = c.args.out.now in
-    let fails : FailsToRead g.I.Source 4 (record { conf = c.args.conf.now; out = out }) (record { conf = c.output_of.new.conf; out = out }) =
-    record { is = refl; quiet = refl; rose = c.output_of.ensures.cause is } in
-    record {
-      by_words = λ output own. absurd (let k = none in cc);
-      by_conf = λ n. if_all _ (λ text. inr (inl fails)) (g.I.Source.left c.args.conf.now);
-      any = inr (inl fails);
-      reads = c.output_of.ensures.reads;
-    }
+pub returns-in-Ok-clause-ran : goal.returns-in-Ok-clause-ran
+returns-in-Ok-clause-ran g c =
+    subst
+    (λ r. RanMaint g.S.Site g.K.Keeper.tells g.W.Sink g.F.Finder
+    (λ k. record { kept = g.K.Keeper.kept k; next_id = g.K.Keeper.next k; faults = g.K.Keeper.faults k })
+    (record {
+      text = g.I.Source.left c.args.conf.now;
+      lists = c.args.lists.now;
+      store = record {
+        kept = g.K.Keeper.kept c.args.keeper;
+        next_id = g.K.Keeper.next c.args.keeper;
+        faults = g.K.Keeper.faults c.args.keeper;
+      };
+      next_try = c.args.right.next;
+    })
+    (g.I.Source.faults c.args.conf.now) (g.I.Source.faults c.run_by.new.conf) c.args.keeper r
+    (record { out = c.args.out.now; coming = g.C.Clock.coming c.args.clock.now; found = c.args.finder.now })
+    (record { out = c.run_by.new.out; coming = g.C.Clock.coming c.run_by.new.clock; found = c.run_by.new.finder })
+    c.run_by.result)
+    (sym c.in-Ok.ensures.read) c.run_by.ensures.ran
+
+pub returns-in-Ok-clause-unread : goal.returns-in-Ok-clause-unread
+returns-in-Ok-clause-unread g c = λ has. c.run_by.ensures.unread (λ none. has (ap of_words c.in-Ok.ensures.read ∙ none))
+
+pub returns-in-Err-NoMemory-clause-ran : goal.returns-in-Err-NoMemory-clause-ran
+returns-in-Err-NoMemory-clause-ran g c =
+    lacks g.S.Site g.K.Keeper.tells g.W.Sink g.F.Finder
+    (λ k. record { kept = g.K.Keeper.kept k; next_id = g.K.Keeper.next k; faults = g.K.Keeper.faults k }) _
+    (g.I.Source.faults c.args.conf.now) c.args.keeper
+    (record { out = c.args.out.now; coming = g.C.Clock.coming c.args.clock.now; found = c.args.finder.now })
+    _ c.ended.result c.ended.ensures

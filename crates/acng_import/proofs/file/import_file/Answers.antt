@@ -11,6 +11,8 @@ use Rattle.acng_import.proofs.Entering.{not_out}
 use Rattle.acng_import.proofs.Filed.{worn_file, same_new, long_file, whole_file}
 use Rattle.acng_import.proofs.Running.{if_did}
 use Rattle.acng_import.proofs.Stepping.{body_made, entered_both}
+use Rattle.acng_import.proofs.Faults.{none_read, not_fault, any_read}
+use Rattle.acng_import.specs.declared.ending.FileEnd.TheVariants.{TooLong}
 use Rattle.acng_import.proofs.file.import_file.Goals as goal
 
 pub returns-in-Err-Worn-clause-did : goal.returns-in-Err-Worn-clause-did
@@ -62,3 +64,19 @@ returns-in-TooLong-clause-did g c = λ kt ft.
 
 pub returns-in-Whole-clause-only : goal.returns-in-Whole-clause-only
 returns-in-Whole-clause-only g c = λ t. entered_both (body_made c.in-Ok.ensures.plain) (c.enter.ensures.only t)
+
+pub returns-in-Whole-clause-enters : goal.returns-in-Whole-clause-enters
+returns-in-Whole-clause-enters g c = entered_both (body_made c.in-Ok.ensures.plain) c.enter.ensures.enters
+
+pub returns-in-Whole-clause-fault : goal.returns-in-Whole-clause-fault
+returns-in-Whole-clause-fault g c = none_read c.enter.result _ c.enter.ensures.read
+
+pub returns-in-TooLong-clause-fault : goal.returns-in-TooLong-clause-fault
+returns-in-TooLong-clause-fault g c = none_read c.let_go.result _ (not_fault c.let_go.result TooLong refl c.let_go.ensures.end)
+
+pub returns-in-Fault-clause-fault : goal.returns-in-Fault-clause-fault
+returns-in-Fault-clause-fault g c =
+    let rose = subst (λ (r : _). FilledAs g.F.Finder.tells g.K.Body.BodyFile.tells (file_at (g.F.Finder.bodies c.args.finder.now) c.args.i)
+    (g.K.Body.BodyFile.handle c.fill.new.body) (g.F.Finder.faults c.args.finder.now) (g.F.Finder.faults c.fill.new.finder) r)
+    c.in-Fault.is c.in-Ok-fill.ensures.filled in
+    any_read c.let_go-in-Fault.result _ rose

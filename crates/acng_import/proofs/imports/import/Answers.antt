@@ -1,12 +1,15 @@
 use Rattle.std.proofs.Common.{◌≡◌, ◌∙◌, List, [], Err, refl, sym, ap, subst, arith, length}
+use mathlib.Core.Bool.{true≢false}
 use Rattle.acng_reach.specs.Caches.{indexes}
 use Rattle.acng_reach.specs.Desks.{cache_of}
 use Rattle.acng_import.specs.declared.ending.Halt.{Halt}
 use Rattle.acng_import.specs.Imports.{FileDid, RanFrom}
+use Rattle.acng_import.specs.Ends.{has_fault}
 use Rattle.acng_import.specs.Files.{file_at}
 use Rattle.acng_import.specs.Looks.{shelf_of}
 use Rattle.acng_import.specs.Puts.{IfDid}
 use Rattle.acng_import.specs.declared.ending.FileEnd.{FileEnd}
+use Rattle.acng_import.proofs.Faults.{one_more, kept_rose}
 use Rattle.acng_import.proofs.Filed.{same_file}
 use Rattle.acng_import.proofs.Running.{ran_none, ran_more}
 use Rattle.acng_import.proofs.Stepping.{none_entered, entered_both, entered_named}
@@ -37,6 +40,9 @@ loop-i-init g c =
           (record { ends = es; house = h1; faults = faults })) (sym c.new-ends.ensures)
           (ran_none g.S.Site tells xs c.args.now files c.args.desk.now h1 faults kt c.in-Ok.ensures.rests);
       only = λ t. none_entered (ap (λ r. r.plain) c.in-Ok.ensures.rests);
+      enters = none_entered (ap (λ r. r.plain) c.in-Ok.ensures.rests);
+      fault = λ has. absurd (true≢false (sym has ∙ ap has_fault c.new-ends.ensures));
+      later = omega arith;
       names = refl;
       bodies = refl;
       may = ap (λ r. r.may_slip) c.in-Ok.ensures.rests;
@@ -95,6 +101,10 @@ loop-i-preserved g c =
           })
           c.keeps.ensures;
       only = λ t. entered_both (i.only t) (entered_named (c.in-Ok.ensures.reach t).indexes_are (e.ensures.only t));
+      enters = entered_both i.enters e.ensures.enters;
+      fault = one_more s.ends c.push.new.self e.end (faults c.args.finder.now) (faults s.finder) (faults c.import_file.new.finder)
+          c.in-Ok-push.ensures.added i.fault i.later e.ensures.later e.ensures.fault;
+      later = omega (arith, i.later, e.ensures.later);
       names = e.ensures.same_names ∙ i.names;
       bodies = e.ensures.same_bodies ∙ i.bodies;
       may = e.ensures.may ∙ i.may;
@@ -124,3 +134,30 @@ returns-in-Err-NoMemory-import_file-clause-only g c = λ t.
 pub returns-in_default-clause-only : goal.returns-in_default-clause-only
 returns-in_default-clause-only g c = λ t.
     entered_both (c.loop-i.invariant.only t) (entered_named (c.in-Ok.ensures.reach t).indexes_are (c.import_file.ensures.only t))
+
+pub returns-in-Err-Worn-clause-enters : goal.returns-in-Err-Worn-clause-enters
+returns-in-Err-Worn-clause-enters g c = entered_both c.loop-i.invariant.enters c.import_file.ensures.enters
+
+pub returns-in-Err-Slip-import_file-clause-enters : goal.returns-in-Err-Slip-import_file-clause-enters
+returns-in-Err-Slip-import_file-clause-enters g c = entered_both c.loop-i.invariant.enters c.import_file.ensures.enters
+
+pub returns-in-Err-NoMemory-import_file-clause-enters : goal.returns-in-Err-NoMemory-import_file-clause-enters
+returns-in-Err-NoMemory-import_file-clause-enters g c = entered_both c.loop-i.invariant.enters c.import_file.ensures.enters
+
+pub returns-in_default-clause-enters : goal.returns-in_default-clause-enters
+returns-in_default-clause-enters g c = entered_both c.loop-i.invariant.enters c.import_file.ensures.enters
+
+pub returns-in-Err-Worn-clause-fault : goal.returns-in-Err-Worn-clause-fault
+returns-in-Err-Worn-clause-fault g c =
+    let s = c.loop-i in
+    let faults = g.F.Finder.faults in
+    kept_rose s.ends (faults c.args.finder.now) (faults s.finder) (faults c.import_file.new.finder) s.invariant.fault c.import_file.ensures.later
+
+pub returns-in-Err-Slip-import_file-clause-fault : goal.returns-in-Err-Slip-import_file-clause-fault
+returns-in-Err-Slip-import_file-clause-fault g c =
+    let s = c.loop-i in
+    let faults = g.F.Finder.faults in
+    kept_rose s.ends (faults c.args.finder.now) (faults s.finder) (faults c.import_file.new.finder) s.invariant.fault c.import_file.ensures.later
+
+pub returns-in-Err-Slip-clause-fault : goal.returns-in-Err-Slip-clause-fault
+returns-in-Err-Slip-clause-fault g c = λ has. absurd (true≢false (sym has ∙ ap has_fault c.new-ends.ensures))
