@@ -20,6 +20,7 @@ test:
 	bash tests/report.sh
 	bash tests/expire.sh
 	bash tests/import.sh
+	bash tests/gen.sh
 	bash tests/folder_syncs.sh
 	bash tests/debian_index.sh
 	bash tests/reach_table.sh

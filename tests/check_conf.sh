@@ -39,7 +39,6 @@ expect "$work/empty" 0 'ok groups 0 warnings 0\n' check-conf
 expect "$work/empty" 4 '' check-conf --conf acng.conf
 expect "$work/empty" 4 '' check-conf --conf nowhere/acng.conf
 expect "$work/conf/refused" 2 'words: StrayNumber\n' import 3
-expect "$work/empty" 2 'words: Other\n' gen 10
 expect "$work/empty" 2 'words: NotRead\n' gen 0
 expect "$work/empty" 2 'words: NoNumber\n' gen
 expect "$work/empty" 2 'words: StrayNumber\n' expire 3

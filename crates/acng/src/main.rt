@@ -2,9 +2,9 @@
 //!
 //! `acng once` reads one request from standard input, answers it from the cache folder or by asking the origins over TCP,
 //! and writes the reply to standard output. `acng serve` does so for every connection to a port, many at a time. The commands
-//! of maintenance print to standard output, and end: `report`, `expire`, `import` and `check-conf`. This file and those beside
-//! it only hand the words, the streams, the files, the clock and the sockets over: what is done is `run_single`'s, `serve`'s and
-//! `run_maint`'s.
+//! of maintenance print to standard output, and end: `report`, `expire`, `import`, `check-conf` and `gen`. This file and those
+//! beside it only hand the words, the streams, the files, the clock and the sockets over: what is done is `run_single`'s,
+//! `serve`'s and `run_maint`'s.
 #![tactic(auto)]
 
 mod cache;

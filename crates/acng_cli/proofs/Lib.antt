@@ -2,7 +2,10 @@ pub mod Cases
 pub mod Enough
 pub mod Entered
 pub mod Expires
+pub mod Fetches
 pub mod FileNotes
+pub mod Generates
+pub mod Nothing
 pub mod Ran
 pub mod Reading
 mod Rows

@@ -1,5 +1,5 @@
 -- What a command of maintenance says, in each of its cases.
-use Rattle.std.proofs.Common.{◌≡◌, inl, inr, ℕ, Bool, true, List, Option, Some, None, Result, Ok, Err, refl, sym, subst, ap}
+use Rattle.std.proofs.Common.{◌≡◌, inl, inr, ℕ, Bool, true, false, ⊥, List, Option, Some, None, Result, Ok, Err, refl, sym, subst, ap}
 use Rattle.acng_base.specs.declared.stream.Sink.{Ghosts as SinkGhosts}
 use Rattle.acng_site.specs.declared.site.Site.{Ghosts as SiteGhosts}
 use Rattle.acng_conf.specs.Settings.{Settings}
@@ -15,7 +15,7 @@ use Rattle.acng_cli.specs.declared.words.Command.TheVariants as command
 use Rattle.acng_cli.specs.declared.words.Words.{Words}
 use Rattle.acng_cli.specs.declared.words.WordsFault.{WordsFault}
 use Rattle.acng_cli.specs.Imports.{Lent}
-use Rattle.acng_cli.specs.Maint.{PrintsNone, RefusesCommand, RanPlain, of_command}
+use Rattle.acng_cli.specs.Maint.{PrintsNone, RefusesCommand, RanPlain, reads_conf}
 use Rattle.acng_cli.specs.Opens.{Store, Given, MaySay, OpensBy, idle}
 use Rattle.acng_cli.specs.Tasks.{OpensNone, OpensSaying, UsesNone, RanBy, RanMaint, task_of}
 
@@ -48,20 +48,20 @@ uses_none {K = K} {Q = Q} keeper old new status e is coming found = record {
 none_printed : {W : Type 0} {status : ℕ} {out : W} → status ≡ 6 → PrintsNone status out out
 none_printed is = record { is = is; quiet = refl }
 
-plain_lacks : {W : Type 0} (w : SinkGhosts W) (text : Option (List ℕ)) (lists : List ListFile) (before : ℕ) (out : W) (c : Command)
-    (status : ℕ) → status ≡ 6 → RanPlain w text lists before before c status out out
-plain_lacks w text lists before out command.CheckConf status is = inr (record { why = inr is; silent = refl })
-plain_lacks w text lists before out command.Serve status is = inr (none_printed is)
-plain_lacks w text lists before out command.Once status is = inr (none_printed is)
-plain_lacks w text lists before out command.Expire status is = inr (none_printed is)
-plain_lacks w text lists before out command.Import status is = inr (none_printed is)
-plain_lacks w text lists before out command.Report status is = inr (none_printed is)
-plain_lacks w text lists before out (command.Gen n) status is = inr (none_printed is)
+plain_lacks : {U W : Type 0} (u : SiteGhosts U) (w : SinkGhosts W) (text : Option (List ℕ)) (lists : List ListFile) (before : ℕ) (out : W) (c : Command)
+    (status : ℕ) → status ≡ 6 → RanPlain u w text lists before before c status out out
+plain_lacks u w text lists before out command.CheckConf status is = inr (record { why = inr is; silent = refl })
+plain_lacks u w text lists before out command.Serve status is = inr (none_printed is)
+plain_lacks u w text lists before out command.Once status is = inr (none_printed is)
+plain_lacks u w text lists before out command.Expire status is = inr (none_printed is)
+plain_lacks u w text lists before out command.Import status is = inr (none_printed is)
+plain_lacks u w text lists before out command.Report status is = inr (none_printed is)
+plain_lacks u w text lists before out (command.Gen n) status is = inr (none_printed is)
 
-module _ {S W F K Q : Type 0} (s : SiteGhosts S) (tells : Bool) (w : SinkGhosts W) (f : FinderGhosts F) (store : K → Store) (g : Given)
-    (before : ℕ) (keeper : K) (old : Lent W F) where
+module _ {S U W F K Q : Type 0} (s : SiteGhosts S) (u : SiteGhosts U) (tells : Bool) (w : SinkGhosts W) (f : FinderGhosts F) (store : K → Store)
+    (g : Given) (before : ℕ) (keeper : K) (old : Lent W F) where
   by_lacks : (t : Option Task) (asked : Words) (e : Maint K Q) → e ≡ idle 6 keeper
-      → RanBy s tells w f store g before before keeper t asked old old e
+      → RanBy s u tells w f store g before before keeper t asked old old e
   by_lacks (Some todo) asked e is = inr (record {
     opens = inr (inr (record {
       why = inr (ap (λ x. x.status) is);
@@ -73,33 +73,33 @@ module _ {S W F K Q : Type 0} (s : SiteGhosts S) (tells : Bool) (w : SinkGhosts 
   })
   by_lacks None asked e is = (
     uses_none keeper old old 6 e is refl refl,
-    plain_lacks w g.text g.lists before old.out asked.command e.status (ap (λ x. x.status) is),
+    plain_lacks u w g.text g.lists before old.out asked.command e.status (ap (λ x. x.status) is),
   )
 
-  pub lacks : (r : Result Words WordsFault) (e : Maint K Q) → e ≡ idle 6 keeper → RanMaint s tells w f store g before before keeper r old old e
+  pub lacks : (r : Result Words WordsFault) (e : Maint K Q) → e ≡ idle 6 keeper → RanMaint s u tells w f store g before before keeper r old old e
   lacks (Ok asked) e is = by_lacks (task_of asked.command) asked e is
   lacks (Err fault) e is = (uses_none keeper old old 6 e is refl refl, inr (none_printed (ap (λ x. x.status) is)))
 
 -- ---- a command that makes no desk
 
--- each but `check-conf` is refused
-pub refused_plain : {W : Type 0} (w : SinkGhosts W) (text : Option (List ℕ)) (lists : List ListFile) (before after : ℕ) (c : Command)
-    (status : ℕ) (old new : W) → (c ≡ command.CheckConf → ⊥) → RefusesCommand w status old new
-    → RanPlain w text lists before after c status old new
-refused_plain w text lists before after command.CheckConf status old new not h = absurd (not refl)
-refused_plain w text lists before after command.Serve status old new not h = h
-refused_plain w text lists before after command.Once status old new not h = h
-refused_plain w text lists before after command.Expire status old new not h = h
-refused_plain w text lists before after command.Import status old new not h = h
-refused_plain w text lists before after command.Report status old new not h = h
-refused_plain w text lists before after (command.Gen n) status old new not h = h
+-- each but `check-conf` and `gen` is refused
+pub refused_plain : {U W : Type 0} (u : SiteGhosts U) (w : SinkGhosts W) (text : Option (List ℕ)) (lists : List ListFile) (before after : ℕ) (c : Command)
+    (status : ℕ) (old new : W) → (c ≡ command.CheckConf → ⊥) → ((n : ℕ) → c ≡ command.Gen n → ⊥) → RefusesCommand w status old new
+    → RanPlain u w text lists before after c status old new
+refused_plain u w text lists before after command.CheckConf status old new not gen h = absurd (not refl)
+refused_plain u w text lists before after command.Serve status old new not gen h = h
+refused_plain u w text lists before after command.Once status old new not gen h = h
+refused_plain u w text lists before after command.Expire status old new not gen h = h
+refused_plain u w text lists before after command.Import status old new not gen h = h
+refused_plain u w text lists before after command.Report status old new not gen h = h
+refused_plain u w text lists before after (command.Gen n) status old new not gen h = absurd (gen n refl)
 
 -- a command that makes a desk reads a configuration
-pub task_reads : (c : Command) (todo : Task) → task_of c ≡ Some todo → of_command c ≡ None
-task_reads command.Serve todo is = cc
-task_reads command.Once todo is = cc
-task_reads command.Expire todo is = refl
-task_reads command.Import todo is = refl
-task_reads command.Report todo is = refl
-task_reads command.CheckConf todo is = refl
-task_reads (command.Gen n) todo is = cc
+pub task_reads : (c : Command) (todo : Task) → task_of c ≡ Some todo → reads_conf c ≡ false → ⊥
+task_reads command.Serve todo is none = cc
+task_reads command.Once todo is none = cc
+task_reads command.Expire todo is none = cc
+task_reads command.Import todo is none = cc
+task_reads command.Report todo is none = cc
+task_reads command.CheckConf todo is none = cc
+task_reads (command.Gen n) todo is none = cc

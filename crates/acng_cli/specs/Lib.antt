@@ -1,9 +1,11 @@
 pub mod Expire
+pub mod Generated
 pub mod Imports
 pub mod Maint
 pub mod Once
 pub mod Opens
 pub mod Report
+pub mod Repository
 pub mod Single
 pub mod Tasks
 pub mod Words

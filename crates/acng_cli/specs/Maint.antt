@@ -1,13 +1,15 @@
 -- The commands of maintenance: what is printed, the status that goes with it, and what a run does by its words.
-use Rattle.std.specs.Prelude.{◌≡◌, ◌⊎◌, ◌+◌, ◌<◌, ◌≤◌, ◌==◌, ◌||◌, ℕ, List, [], ◌∷◌, ◌++◌, Option, Some, None, Result, Ok, Err, cond, codes, length, take, IfSome}
+use Rattle.std.specs.Prelude.{◌≡◌, ◌⊎◌, ◌+◌, ◌<◌, ◌≤◌, ◌==◌, ◌||◌, ℕ, Bool, true, false, List, [], ◌∷◌, ◌++◌, Option, Some, None, Result, Ok, Err, cond, codes, length, take, IfSome}
 use Rattle.std.specs.Io.KnownBytes.{Appends, Consumes, IsAtEnd}
 use Rattle.acng_base.specs.declared.stream.Sink.{Ghosts as SinkGhosts}
 use Rattle.acng_base.specs.Causes.{Rose}
+use Rattle.acng_site.specs.declared.site.Site.{Ghosts as SiteGhosts}
 use Rattle.acng_conf.specs.Settings.{Settings}
 use Rattle.acng_conf.specs.Readings.{reading}
 use Rattle.acng_conf.specs.Printed.{printed, fault_line}
 use Rattle.acng_conf.specs.declared.fault.ConfFault.{ConfFault}
 use Rattle.acng_conf.specs.declared.fault.ListFile.{ListFile}
+use Rattle.acng_cli.specs.Generated.{IsGenerated}
 use Rattle.acng_cli.specs.Opens.{CannotRead}
 use Rattle.acng_cli.specs.declared.output.Output.{Output}
 use Rattle.acng_cli.specs.declared.words.Command.{Command}
@@ -29,20 +31,20 @@ fault_name fault.StrayNumber = codes "StrayNumber"
 abbrev pub words_output : List ℕ → Output
 words_output name = record { status = 2; text = codes "words: " ++ name ++ 10 ∷ [] }
 
--- a command that isn't one of maintenance, or isn't built, is refused; None where the command reads a configuration
-abbrev pub of_command : Command → Option Output
-of_command command.CheckConf = None
-of_command command.Serve = Some (words_output (codes "Other"))
-of_command command.Once = Some (words_output (codes "Other"))
-of_command command.Expire = None
-of_command command.Import = None
-of_command command.Report = None
-of_command (command.Gen n) = Some (words_output (codes "Other"))
+-- whether a command of maintenance reads the configuration
+abbrev pub reads_conf : Command → Bool
+reads_conf command.CheckConf = true
+reads_conf command.Serve = false
+reads_conf command.Once = false
+reads_conf command.Expire = true
+reads_conf command.Import = true
+reads_conf command.Report = true
+reads_conf (command.Gen n) = false
 
--- what is said of the words alone
-abbrev pub of_words : Result Words WordsFault → Option Output
-of_words (Ok words) = of_command words.command
-of_words (Err e) = Some (words_output (fault_name e))
+-- the same by the words
+abbrev pub asks_conf : Result Words WordsFault → Bool
+asks_conf (Ok words) = reads_conf words.command
+asks_conf (Err e) = false
 
 -- what is said of a configuration
 abbrev pub of_conf : Result Settings ConfFault → Output
@@ -96,6 +98,17 @@ pub record PrintsNone {W : Type 0} (status : ℕ) (old new : W) : Type 0 where
 abbrev pub PrintsUnless : {W : Type 0} → SinkGhosts W → Output → ℕ → W → W → Type 0
 PrintsUnless w output status old new = Prints w output status old new ⊎ PrintsNone status old new
 
+-- ---- a repository from a number
+
+-- the line of a run was printed
+pub record PrintsRun {U W : Type 0} (u : SiteGhosts U) (w : SinkGhosts W) (n status : ℕ) (old new : W) : Type 0 where
+  pub text : List ℕ
+  pub is : IsGenerated u n text
+  pub printed : Prints w (record { status = 0; text = text }) status old new
+
+abbrev pub PrintsGen : {U W : Type 0} → SiteGhosts U → SinkGhosts W → ℕ → ℕ → W → W → Type 0
+PrintsGen u w n status old new = PrintsRun u w n status old new ⊎ PrintsNone status old new
+
 -- ---- a command that makes no desk
 
 -- what is said of the configuration, whose text may be known
@@ -117,12 +130,12 @@ ChecksConf w text lists before after status old new =
 abbrev pub RefusesCommand : {W : Type 0} → SinkGhosts W → ℕ → W → W → Type 0
 RefusesCommand w status old new = PrintsUnless w (words_output (codes "Other")) status old new
 
--- by the command
-abbrev pub RanPlain : {W : Type 0} → SinkGhosts W → Option (List ℕ) → List ListFile → ℕ → ℕ → Command → ℕ → W → W → Type 0
-RanPlain w text lists before after command.CheckConf status old new = ChecksConf w text lists before after status old new
-RanPlain w text lists before after command.Serve status old new = RefusesCommand w status old new
-RanPlain w text lists before after command.Once status old new = RefusesCommand w status old new
-RanPlain w text lists before after command.Expire status old new = RefusesCommand w status old new
-RanPlain w text lists before after command.Import status old new = RefusesCommand w status old new
-RanPlain w text lists before after command.Report status old new = RefusesCommand w status old new
-RanPlain w text lists before after (command.Gen n) status old new = RefusesCommand w status old new
+-- by the command, over the site of `gen`, which has one of its own
+abbrev pub RanPlain : {U W : Type 0} → SiteGhosts U → SinkGhosts W → Option (List ℕ) → List ListFile → ℕ → ℕ → Command → ℕ → W → W → Type 0
+RanPlain u w text lists before after command.CheckConf status old new = ChecksConf w text lists before after status old new
+RanPlain u w text lists before after command.Serve status old new = RefusesCommand w status old new
+RanPlain u w text lists before after command.Once status old new = RefusesCommand w status old new
+RanPlain u w text lists before after command.Expire status old new = RefusesCommand w status old new
+RanPlain u w text lists before after command.Import status old new = RefusesCommand w status old new
+RanPlain u w text lists before after command.Report status old new = RefusesCommand w status old new
+RanPlain u w text lists before after (command.Gen n) status old new = PrintsGen u w n status old new

@@ -1,13 +1,14 @@
 //! The commands of maintenance, by their words: `expire`, `import` and `report` work on a desk, `check-conf` reads a
-//! configuration alone.
+//! configuration alone, and `gen` makes a repository of its own in memory.
 //!
 //! Each prints its text to the output, and the keeper is given back whatever comes.
-ghost use Rattle.std.specs.Prelude.{◌≡◌, ◌≢◌, true, None};
+ghost use Rattle.std.specs.Prelude.{◌≡◌, true, false};
 ghost use Rattle.acng_grow.specs.Faithful.{IsFaithful};
 ghost use Rattle.acng_cli.specs.Words.{words_of};
-ghost use Rattle.acng_cli.specs.Maint.{ReadsFew, ChecksConf, RanPlain, of_command, of_words};
+ghost use Rattle.acng_cli.specs.Maint.{ReadsFew, ChecksConf, RanPlain, asks_conf, reads_conf};
 ghost use Rattle.acng_cli.specs.Tasks.{RanBy, RanMaint, task_of as task_in};
 
+use crate::generate::print_gen;
 use crate::opening::{Maint, ended};
 use crate::output::{fault_name, print_accepted, print_refusal, print_words};
 use crate::source::read_settings;
@@ -18,7 +19,7 @@ use acng_base::{Clock, FileFault, Sink, Source, Text};
 use acng_conf::ListFile;
 use acng_import::Finder;
 use acng_keeper::{Keeper, SlipOf};
-use acng_site::{Right, Site};
+use acng_site::{Right, Site, Untold};
 use std::alloc::Global;
 
 /// Runs the command that the words name, the program's name left out, and gives the program's status, the keeper, and the slip
@@ -27,9 +28,9 @@ use std::alloc::Global;
 /// `expire`, `import` and `report` open a desk over the keeper, as `open_desk` does. `expire` makes one run of expiration and
 /// prints `done removed R marked M`, `aborted problems P` or `stopped removed R`; `import` lets the found files in and prints
 /// a line for each, and then `stopped` or `worn` where it ended so; both take one moment of the clock. `report` prints a line
-/// for each held path, and `rows N bytes B`. `check-conf` prints `ok groups G warnings W`, and a line for each warning. A
-/// configuration that is refused prints `line L: CAUSE`; words that aren't read `words: NAME`, and other commands
-/// `words: Other`.
+/// for each held path, and `rows N bytes B`. `check-conf` prints `ok groups G warnings W`, and a line for each warning. `gen`
+/// prints `gen N: rows R, marked M, removed D, left L`. A configuration that is refused prints `line L: CAUSE`; words that
+/// aren't read `words: NAME`, and other commands `words: Other`.
 ///
 /// Status 0: it was done. 1: the expiration was aborted, and nothing was changed. 2: the words are refused, and nothing is
 /// read. 3: the configuration is refused, or the keeper holds too many paths. 4: the configuration couldn't be read, a found
@@ -49,7 +50,7 @@ pub fn run_maint<S: Site, K: Keeper, F: Finder, C: Clock, I: Source, W: Sink>(
 ) -> Maint<K, SlipOf<K>>
     requires faithful { K.tells ≡ true → IsFaithful S.Site (K.kept keeper) }
     requires told { S.tells ≡ true → K.tells ≡ true }
-    ensures ran { RanMaint S.Site K.tells W.Sink F.Finder (λ k. record { kept = K.kept k; next_id = K.next k; faults = K.faults k })
+    ensures ran { RanMaint S.Site ⟦<Untold as Site>⟧ K.tells W.Sink F.Finder (λ k. record { kept = K.kept k; next_id = K.next k; faults = K.faults k })
         (record {
           text = I.left conf.old;
           lists = lists.now;
@@ -60,7 +61,7 @@ pub fn run_maint<S: Site, K: Keeper, F: Finder, C: Clock, I: Source, W: Sink>(
         (record { out = out.old; coming = C.coming clock.old; found = finder.old })
         (record { out = out.new; coming = C.coming clock.new; found = finder.new }) result }
     ensures still { K.tells ≡ true → IsFaithful S.Site (K.kept result.keeper) }
-    ensures unread { of_words (words_of words.now) ≢ None → conf.new ≡ conf.old }
+    ensures unread { asks_conf (words_of words.now) ≡ false → conf.new ≡ conf.old }
     ensures reads { ReadsFew (I.left conf.old) (I.left conf.new) }
 {
     match read_words(alloc, words) {
@@ -84,7 +85,7 @@ fn run_by<S: Site, K: Keeper, F: Finder, C: Clock, I: Source, W: Sink>(
 ) -> Maint<K, SlipOf<K>>
     requires faithful { K.tells ≡ true → IsFaithful S.Site (K.kept keeper) }
     requires told { S.tells ≡ true → K.tells ≡ true }
-    ensures ran { RanBy S.Site K.tells W.Sink F.Finder (λ k. record { kept = K.kept k; next_id = K.next k; faults = K.faults k })
+    ensures ran { RanBy S.Site ⟦<Untold as Site>⟧ K.tells W.Sink F.Finder (λ k. record { kept = K.kept k; next_id = K.next k; faults = K.faults k })
         (record {
           text = I.left conf.old;
           lists = lists.now;
@@ -95,7 +96,7 @@ fn run_by<S: Site, K: Keeper, F: Finder, C: Clock, I: Source, W: Sink>(
         (record { out = out.old; coming = C.coming clock.old; found = finder.old })
         (record { out = out.new; coming = C.coming clock.new; found = finder.new }) result }
     ensures still { K.tells ≡ true → IsFaithful S.Site (K.kept result.keeper) }
-    ensures unread { of_command words.command ≢ None → conf.new ≡ conf.old }
+    ensures unread { reads_conf words.command ≡ false → conf.new ≡ conf.old }
     ensures reads { ReadsFew (I.left conf.old) (I.left conf.new) }
 {
     match task_of(words.command) {
@@ -130,12 +131,13 @@ fn run_plain<I: Source, W: Sink>(
     lists: &[ListFile],
     out: &mut W,
 ) -> u8
-    ensures ran { RanPlain W.Sink (I.left conf.old) lists.now (I.faults conf.old) (I.faults conf.new) command result out.old out.new }
-    ensures unread { of_command command ≢ None → conf.new ≡ conf.old }
+    ensures ran { RanPlain ⟦<Untold as Site>⟧ W.Sink (I.left conf.old) lists.now (I.faults conf.old) (I.faults conf.new) command result out.old out.new }
+    ensures unread { reads_conf command ≡ false → conf.new ≡ conf.old }
     ensures reads { ReadsFew (I.left conf.old) (I.left conf.new) }
 {
     match command {
         Command::CheckConf => check_conf(alloc, conf, lists, out),
+        Command::Gen(number) => print_gen(alloc, number, out),
         _ => print_words(alloc, b"Other", out),
     }
 }

@@ -1,5 +1,5 @@
 use Rattle.std.proofs.Common.{◌∙◌, sym, subst, ap}
-use Rattle.acng_cli.specs.Maint.{of_words}
+use Rattle.acng_cli.specs.Maint.{asks_conf}
 use Rattle.acng_cli.specs.Tasks.{RanMaint}
 use Rattle.acng_cli.proofs.Tasks.{lacks}
 use Rattle.acng_cli.proofs.maint.run_maint.Goals as goal
@@ -7,7 +7,7 @@ use Rattle.acng_cli.proofs.maint.run_maint.Goals as goal
 pub returns-in-Ok-clause-ran : goal.returns-in-Ok-clause-ran
 returns-in-Ok-clause-ran g c =
     subst
-    (λ r. RanMaint g.S.Site g.K.Keeper.tells g.W.Sink g.F.Finder
+    (λ r. RanMaint g.S.Site _ g.K.Keeper.tells g.W.Sink g.F.Finder
     (λ k. record { kept = g.K.Keeper.kept k; next_id = g.K.Keeper.next k; faults = g.K.Keeper.faults k })
     (record {
       text = g.I.Source.left c.args.conf.now;
@@ -26,11 +26,11 @@ returns-in-Ok-clause-ran g c =
     (sym c.in-Ok.ensures.read) c.run_by.ensures.ran
 
 pub returns-in-Ok-clause-unread : goal.returns-in-Ok-clause-unread
-returns-in-Ok-clause-unread g c = λ has. c.run_by.ensures.unread (λ none. has (ap of_words c.in-Ok.ensures.read ∙ none))
+returns-in-Ok-clause-unread g c = λ none. c.run_by.ensures.unread (ap asks_conf (sym c.in-Ok.ensures.read) ∙ none)
 
 pub returns-in-Err-NoMemory-clause-ran : goal.returns-in-Err-NoMemory-clause-ran
 returns-in-Err-NoMemory-clause-ran g c =
-    lacks g.S.Site g.K.Keeper.tells g.W.Sink g.F.Finder
+    lacks g.S.Site _ g.K.Keeper.tells g.W.Sink g.F.Finder
     (λ k. record { kept = g.K.Keeper.kept k; next_id = g.K.Keeper.next k; faults = g.K.Keeper.faults k }) _
     (g.I.Source.faults c.args.conf.now) c.args.keeper
     (record { out = c.args.out.now; coming = g.C.Clock.coming c.args.clock.now; found = c.args.finder.now })
