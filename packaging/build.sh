@@ -29,6 +29,7 @@ put() { install -D -m "$1" "$2" "$root/$3/$(basename "$2")"; }
 
 put 755 "$program" usr/sbin
 if command -v strip > /dev/null; then strip --strip-unneeded --remove-section=.comment "$root/usr/sbin/acng"; fi
+put 755 "$here/expire" usr/lib/acng
 put 644 "$here/acng.conf" etc/acng
 put 644 "$here/debian_mirrors" etc/acng
 for unit in acng.service acng-expire.service acng-expire.timer; do put 644 "$here/$unit" usr/lib/systemd/system; done

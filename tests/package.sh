@@ -34,7 +34,9 @@ said 'name, version, architecture' "$([ "$fields" = "acng $version amd64" ] && e
 owners=$(dpkg-deb -c "$deb" | awk '{ print $2 }' | sort -u)
 said 'every file is of root' "$([ "$owners" = root/root ] && echo 0 || echo 1)" "$owners"
 modes=$(dpkg-deb -c "$deb" | awk '$1 !~ /^(drwxr-xr-x|-rw-r--r--)$/ { print $1, $6 }')
-said 'the program alone is executable' "$([ "$modes" = '-rwxr-xr-x ./usr/sbin/acng' ] && echo 0 || echo 1)" "$modes"
+wanted='-rwxr-xr-x ./usr/lib/acng/expire
+-rwxr-xr-x ./usr/sbin/acng'
+said 'the program and the nightly run alone are executable' "$([ "$modes" = "$wanted" ] && echo 0 || echo 1)" "$modes"
 
 root=$work/root
 dpkg-deb -R "$deb" "$root"
@@ -62,6 +64,35 @@ status=$?
 { file_head 'Content-Length: 22\r\n' && cat "$work/body"; } > "$work/wanted"
 compare 'a request by the installed configuration' "$status" 0 "$work/reply" "$work/wanted"
 
+# ---- the nightly run
+
+# A server that may is asked, and `acng expire` isn't run; with none at the port it is.
+night=$work/night
+mkdir -p "$night/conf"
+port=$(python3 -c 'import socket; s = socket.socket(); s.bind(("127.0.0.1", 0)); print(s.getsockname()[1])')
+sed -e "s/^Port:.*/Port: $port/" -e 's/^BindAddress:.*/BindAddress: 127.0.0.1/' -e 's/^MaintOverHttp:.*/MaintOverHttp: 1/' "$conf" \
+    > "$night/conf/acng.conf"
+# by_night PROGRAM LINE STATUS NAME: what a run by night prints, and its status
+by_night() {
+    ACNG=$1 timeout 60 bash "$root/usr/lib/acng/expire" run "$night/conf/acng.conf" "$night/cache" > "$work/printed" 2>&1
+    status=$?
+    said "$4" "$([ "$status" = "$3" ] && [ "$(cat "$work/printed")" = "$2" ] && echo 0 || echo 1)" \
+        "status $status; $(head -n 3 "$work/printed")"
+}
+"$root/usr/sbin/acng" serve --conf "$night/conf/acng.conf" --cache "$night/cache" &
+server=$!
+for _ in $(seq 100); do
+    (exec 4<> "/dev/tcp/127.0.0.1/$port") 2> /dev/null && break
+    sleep 0.1
+done
+by_night /bin/false 'done removed 0 marked 0' 0 'a run by night through the server'
+kill "$server"
+wait "$server" 2> /dev/null
+by_night "$root/usr/sbin/acng" 'done removed 0 marked 0' 0 'a run by night without a server'
+sed -i 's/^Port:.*/Port: 70000/' "$night/conf/acng.conf"
+line=$(grep -n '^Port:' "$night/conf/acng.conf" | cut -d : -f 1)
+by_night "$root/usr/sbin/acng" "line $line: BadNumber" 3 'a run by night with a refused configuration'
+
 # ---- man pages, the unit, lintian
 
 for page in acng.8 acng.conf.5; do
@@ -75,7 +106,7 @@ done
 if command -v systemd-analyze > /dev/null; then
     mkdir "$work/units"
     cp "$root"/usr/lib/systemd/system/* "$work/units"
-    sed -i "s|/usr/sbin/acng|$root/usr/sbin/acng|" "$work"/units/*.service
+    sed -i -e "s|/usr/sbin/acng|$root/usr/sbin/acng|" -e "s|/usr/lib/acng|$root/usr/lib/acng|" "$work"/units/*.service
     holds 'the units by systemd-analyze' systemd-analyze verify --man=no "$work"/units/*
 else
     echo "$check: the units: skipped, there is no systemd-analyze"
