@@ -1,6 +1,7 @@
 #!/usr/bin/env bash
 # Runs the built program's `expire` over a cache folder: what `once` has fetched with an index and without one, marks of long ago,
-# a list that isn't the one that its index names, and each status. The wanted lines and tables are written from the rules.
+# a list that isn't the one that its index names, runs that stop in the middle, and each status. The wanted lines and tables are
+# written from the rules.
 set -u
 cd "$(dirname "$0")/.." || exit 1
 check=expire
@@ -73,6 +74,20 @@ a='pool/a_1_all.deb 3' b='pool/b_1_all.deb 4' index="dists/s/InRelease $release 
 expect 'files without an index' 1 'aborted problems 1\n' "${with[@]}"
 holds 'then nothing is marked' "$a -" "$b -"
 fetch dists/s/InRelease
+
+# No file may grow in this run, so its first mark can't be written. Its line goes into a pipe, which is no file.
+cp -r "$cache" "$work/other"
+seen=$( (trap '' XFSZ
+    ulimit -f 0
+    timeout 50 "$program" expire --conf "$work/acng.conf" --cache "$work/other" < /dev/null
+    echo "status $?") 2>&1 | cat)
+bad=0
+[ "$seen" = "stopped removed 0
+status 5" ] || bad=1
+said "a mark that can't be written" "$bad" "$seen"
+cache=$work/other holds 'then nothing is marked either' "$index" "$a -" "$b -"
+rm -r "$work/other"
+
 expect 'an index without its list' 0 'done removed 0 marked 2\n' "${with[@]}"
 holds 'what no list names is marked' "$index" "$a now" "$b now"
 fetch "dists/s/$list"
@@ -95,6 +110,20 @@ expect 'one problem of at most one' 0 'done removed 2 marked 0\n' --conf "$work/
 rm -r "$work/other"
 cp -r "$cache" "$work/other"
 expect 'no limit of problems' 0 'done removed 2 marked 0\n' --conf "$work/never.conf" --cache "$work/other"
+rm -r "$work/other"
+
+# The second of two bodies can't be removed, since it is a folder with something in it. Its head went before it.
+cp -r "$cache" "$work/other"
+first=$(number_of pool/a_1_all.deb) second=$(number_of pool/b_1_all.deb)
+rm "$work/other/b-$second"
+mkdir -p "$work/other/b-$second/stays"
+sed -i "s/^size .*/size $(stat -c %s "$work/other/b-$second")/" "$work/other/h-$second"
+expect "a body that can't be removed" 5 'stopped removed 1\n' --conf "$work/never.conf" --cache "$work/other"
+bad=0
+for name in "b-$first" "h-$first" "h-$second"; do [ ! -e "$work/other/$name" ] || bad=1; done
+[ -d "$work/other/b-$second/stays" ] || bad=1
+said 'then the one before it is gone' "$bad" "$(ls "$work/other")"
+rm -r "$work/other"
 if [ -c /dev/full ]; then
     timeout 50 "$program" expire "${with[@]}" < /dev/null > /dev/full 2> "$work/said"
     got=$?
