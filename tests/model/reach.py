@@ -130,11 +130,35 @@ def package_names(text):
     return names
 
 
+# ---- the calls of a keeper
+
+class Slip(Exception):
+    """A call of the keeper failed."""
+
+
+class Keeper:
+    """The calls of a keeper and of its bodies, numbered together from 0; those with a number in `slips` fail."""
+    def __init__(self, slips=()):
+        self.count, self.slips = 0, slips
+
+    def call(self, times=1):
+        for _ in range(times):
+            self.count += 1
+            if self.count - 1 in self.slips:
+                raise Slip
+
+    def read(self, text):
+        """A held body is fetched, and read by one call where it has bytes."""
+        self.call(2 if text else 1)
+        return text
+
+
 # ---- reach
 
 class Reach:
-    def __init__(self, held, failed):
+    def __init__(self, held, failed, keeper=None):
         self.held, self.reached, self.named, self.problems = held, set(), set(), set()
+        self.keeper = keeper or Keeper()
         indexes = [path for path in held if self.is_current(path)]
         for path in indexes:
             self.take_index(path)
@@ -153,7 +177,7 @@ class Reach:
         self.reach(path)
         self.reach(beneath(folder, "Release.gpg"))
         read = inrelease_entries if last_of(path) == "InRelease" else release_entries
-        entries = read(self.held[path])
+        entries = read(self.keeper.read(self.held[path]))
         if entries is None:
             self.problems.add(folder)
             return
@@ -185,11 +209,12 @@ class Reach:
             if last_of(name) != "Packages":
                 continue
             for place in held:
-                text = self.held[place]
+                text = self.keeper.read(self.held[place])
                 names = package_names(text) if (digest(text), len(text)) == (sha256, size) else None
                 if names is not None:
                     was_read = True
                     self.take_names(folder, names)
+                    break
         if live and not was_read:
             self.problems.add(folder + "/" + inner if inner else folder)
 
@@ -232,27 +257,76 @@ def is_forbidden(path):
     return not re.search(r"\.(deb|udeb|ddeb|dsc|gz|xz|bz2|lzma|zst|asc|changes|buildinfo)$", name)
 
 
-def import_found(held, found, rows, fail):
-    """The printed lines, and what is held afterwards. A small file is read once, and once more for its end."""
-    held, named, read, lines = dict(held), Reach(held, []).named, 0, []
-    for name, text in found:
-        shown = re.sub(rb"[^!-~]", b"?", name.encode()).decode()
-        reads = range(read, read + (2 if text else 1))
-        failed = [number for number in reads if number in fail]
-        read = failed[0] + 1 if failed else reads.stop
-        if failed:
-            lines.append("fault " + shown)
-            continue
+class Import:
+    """An import of found files. A call of the keeper that fails raises Slip, and what is held then is what a reader finds."""
+    def __init__(self, held, rows, fail, slips):
+        self.held, self.rows, self.fail, self.reads, self.keeper = dict(held), rows, fail, 0, Keeper(slips)
+        self.keeper.call(2)             # the start lists the heads and the bodies
+        self.keeper.call(4 * len(held)) # each held file was made, written, sealed, and got its head
+
+    def read_fails(self):
+        self.reads += 1
+        return self.reads - 1 in self.fail
+
+    def wants(self, path, text):
+        if is_forbidden(path):
+            return False
+        return path not in self.held or digest(self.keeper.read(self.held[path])) != digest(text)
+
+    def put(self, path, text):
+        """The body is sealed and its head put, and the path has it; then the head and the body that it had go."""
+        self.keeper.call(2)
+        replaces = path in self.held
+        self.held[path] = text
+        self.keeper.call(2 if replaces else 0)
+
+    def gets_it(self, text):
+        """Whether all of the found file came into a new body. A small file is read once, and once more for its end."""
+        self.keeper.call()
+        if text:
+            if self.read_fails():
+                return False
+            self.keeper.call()
+        return not self.read_fails()
+
+    def file(self, named, text):
+        """What becomes of a found file. A body that isn't kept goes."""
+        if not self.gets_it(text):
+            self.keeper.call()
+            return "fault"
         paths = sorted(path for path, sha256, size in named if (sha256, size) == (digest(text), len(text)))
-        wanted = [path for path in paths if not is_forbidden(path) and not (path in held and digest(held[path]) == digest(text))]
-        word = "unknown" if not paths else "held" if not wanted else "kept %d" % len(wanted)
+        wanted = [path for path in paths if self.wants(path, text)]
+        if not wanted:
+            self.keeper.call()
+            return "held" if paths else "unknown"
+        return self.enter(wanted, text)
+
+    def enter(self, wanted, text):
+        """The first path gets the body, and each further one a copy of what the path before it has."""
+        before = None
         for path in wanted:
-            if path not in held and len(held) >= rows:
-                word = "full"
-                break
-            held[path] = text
-        lines.append(word + " " + shown)
-    return lines, held
+            if before:
+                self.keeper.call()
+                self.keeper.read(self.held[before])
+                self.keeper.call(1 if text else 0)
+            if path not in self.held and len(self.held) >= self.rows:
+                self.keeper.call()
+                return "full"
+            self.put(path, text)
+            before = path
+        return "kept %d" % len(wanted)
+
+    def run(self, found):
+        """The printed lines."""
+        lines = []
+        try:
+            named = Reach(self.held, [], self.keeper).named
+            for name, text in found:
+                shown = re.sub(rb"[^!-~]", b"?", name.encode()).decode()
+                lines.append(self.file(named, text) + " " + shown)
+        except Slip:
+            lines.append("stopped")
+        return lines
 
 
 # ---- texts for the table
@@ -444,11 +518,27 @@ def imports():
     yield "a read that doesn't come", three, [("one", "abc\n")], 9, [7]
     yield "no index", {"h/a.deb": "abc\n"}, [("one", "abc\n")], 9, []
     yield "nothing is held, and files are found", {}, [("one", "abc\n"), ("two", "")], 9, []
+    for number in range(5):
+        yield "read %d of four" % number, three, [("one", "abc\n"), ("two", "abc\n")], 9, [number]
+
+
+def slips():
+    """Imports of which each call of the keeper fails in turn, and at last one that doesn't come: as `imports`, and the number."""
+    names = package("a.deb", "abc\n") + "\n" + package("b.deb", "abc\n") + "\n" + package("c.deb", "abcd\n")
+    index = {"h/flat/Release": release(entry("Packages", names)), "h/flat/Packages": names}
+    enters = {**index, "h/flat/b.deb": "abd\n"}, [("one", "abc\n"), ("two", "abcd\n")], 9, []
+    others = {**index, "h/flat/c.deb": "abcd\n"}, [("bad", "x\n"), ("none", "x\n"), ("has", "abcd\n"), ("full", "abc\n")], 4, [0]
+    for kind, (held, found, rows, fail) in (("that enter", enters), ("that end otherwise", others)):
+        whole = Import(held, rows, fail, [])
+        begun = whole.keeper.count
+        whole.run(found)
+        for number in range(begun, whole.keeper.count + 1):
+            yield "call %d for files %s" % (number - begun, kind), held, found, rows, fail, [number]
 
 
 # ---- printing
 
-def print_case(name, held, failed, tries, asks, found=(), rows=None, fail=()):
+def print_case(name, held, failed, tries, asks, found=(), rows=None, fail=(), slips=()):
     print("= " + name)
     if rows is not None:
         print("%% %d" % rows)
@@ -472,6 +562,8 @@ def print_case(name, held, failed, tries, asks, found=(), rows=None, fail=()):
             print(">" + line)
     for number in fail:
         print("~ %d" % number)
+    for number in slips:
+        print("^ %d" % number)
     print(".")
 
 
@@ -480,6 +572,8 @@ def print_input():
         print_case(*case)
     for name, held, found, rows, fail in imports():
         print_case(name, held, [], [], [], found, rows, fail)
+    for name, held, found, rows, fail, numbers in slips():
+        print_case(name, held, [], [], [], found, rows, fail, numbers)
 
 
 def print_reach(name, held, failed, tries, asks):
@@ -496,16 +590,23 @@ def print_reach(name, held, failed, tries, asks):
             print("named " + path)
 
 
+def print_import(held, found, rows, fail, numbers):
+    done = Import(held, rows, fail, numbers)
+    for line in done.run(found):
+        print(line)
+    for path, text in sorted(done.held.items()):
+        print("holds %s %d %d" % (path, len(text), int(digest(text)[:2], 16)))
+
+
 def print_expected():
     for case in table():
         print_reach(*case)
     for name, held, found, rows, fail in imports():
         print_reach(name, held, [], [], [])
-        lines, after = import_found(held, found, rows, fail)
-        for line in lines:
-            print(line)
-        for path in sorted(after):
-            print("holds %s %d %d" % (path, len(after[path]), int(digest(after[path])[:2], 16)))
+        print_import(held, found, rows, fail, [])
+    for name, held, found, rows, fail, numbers in slips():
+        print("= " + name)
+        print_import(held, found, rows, fail, numbers)
 
 
 if __name__ == "__main__":

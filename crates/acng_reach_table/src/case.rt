@@ -39,6 +39,8 @@ pub struct Case {
     pub found: Vec<Found>,
     /// The numbers of the reads of found files that fail.
     pub fail: Vec<u64>,
+    /// The numbers of the keeper's calls that fail.
+    pub slips: Vec<u64>,
 }
 
 impl Case {
@@ -51,6 +53,7 @@ impl Case {
             asks: Vec::new(alloc),
             found: Vec::new(alloc),
             fail: Vec::new(alloc),
+            slips: Vec::new(alloc),
         }
     }
 
@@ -84,6 +87,10 @@ impl Case {
         }
         if let Some(text) = line.strip_prefix("~ ") {
             self.fail.push(number_of(text)?)?;
+            return Ok(());
+        }
+        if let Some(text) = line.strip_prefix("^ ") {
+            self.slips.push(number_of(text)?)?;
             return Ok(());
         }
         match line.strip_prefix("% ") {

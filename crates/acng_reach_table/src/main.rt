@@ -4,7 +4,8 @@
 //! Standard input has a case after another. A line begins with what it says: `=` the name of the case, `+` a held path, whose
 //! bytes are the lines with `|` that follow, each with a line feed, `!` a failed path, `?` a further path to try, `#` a hash
 //! and a size to ask for, `@` a found file, whose bytes are the lines with `>` that follow, `~` the number of a read of found
-//! files that fails, `%` the most rows, and `.` alone the end of the case. Where there are found files, they are imported.
+//! files that fails, `^` the number of a call of the keeper that fails, `%` the most rows, and `.` alone the end of the case.
+//! Where there are found files, they are imported; where a call of the keeper fails, nothing is asked before the import.
 #![tactic(auto)]
 
 mod case;
@@ -43,11 +44,13 @@ fn take(rt: &impl Print, alloc: Global, case: &mut Case, line: &str) -> io::Resu
 
 // What the cache of a case reaches and names, and its problems.
 fn show(rt: &impl Print, alloc: Global, case: &Case) -> io::Result<()> {
-    let Some(shop) = filled(alloc, case.rows, &case.held) else {
+    let Some(shop) = filled(alloc, case.rows, &case.held, &case.slips) else {
         return Err(broken());
     };
     let mut shop = shop;
-    show_reach(rt, alloc, &mut shop, case)?;
+    if case.slips.is_empty() {
+        show_reach(rt, alloc, &mut shop, case)?;
+    }
     if case.found.is_empty() {
         return Ok(());
     }

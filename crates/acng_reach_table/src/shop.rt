@@ -12,9 +12,9 @@ use std::alloc::Global;
 
 pub type Shop = Desk<Untold, MemoryKeeper, ()>;
 
-/// A desk of at most so many rows that holds these files.
-pub fn filled(alloc: Global, rows: u32, files: &[File]) -> Option<Shop> {
-    let mut shop = empty(alloc, rows)?;
+/// A desk of at most so many rows that holds these files. The calls of its keeper with these numbers fail.
+pub fn filled(alloc: Global, rows: u32, files: &[File], slips: &[u64]) -> Option<Shop> {
+    let mut shop = empty(alloc, rows, slips)?;
     for file in files {
         put(alloc, &mut shop, &file.path, &file.text)?;
     }
@@ -29,7 +29,7 @@ fn right(alloc: Global) -> Option<Right<Untold>> {
 }
 
 #[tactic(auto, using(crate::proofs::Empty::nothing_faithful))]
-fn empty(alloc: Global, rows: u32) -> Option<Shop> {
+fn empty(alloc: Global, rows: u32, slips: &[u64]) -> Option<Shop> {
     if rows == 0 || rows > 4096 {
         return None;
     }
@@ -37,7 +37,7 @@ fn empty(alloc: Global, rows: u32) -> Option<Shop> {
     let Ok(conf) = read_conf(alloc, b"", &[]) else {
         return None;
     };
-    let Ok(keeper) = MemoryKeeper::new(alloc, &[]) else {
+    let Ok(keeper) = MemoryKeeper::new(alloc, slips) else {
         return None;
     };
     match Desk::start(alloc, keeper, right, &conf, rows) {
