@@ -1,5 +1,5 @@
 -- What a command of maintenance says, in each of its cases.
-use Rattle.std.proofs.Common.{◌≡◌, inl, inr, ℕ, Bool, true, false, ⊥, List, Option, Some, None, Result, Ok, Err, refl, sym, subst, ap}
+use Rattle.std.proofs.Common.{◌≡◌, inl, inr, ℕ, Bool, true, false, List, Option, Some, None, Result, Ok, Err, refl, sym, subst, ap}
 use Rattle.acng_base.specs.declared.stream.Sink.{Ghosts as SinkGhosts}
 use Rattle.acng_site.specs.declared.site.Site.{Ghosts as SiteGhosts}
 use Rattle.acng_conf.specs.Settings.{Settings}
@@ -17,7 +17,7 @@ use Rattle.acng_cli.specs.declared.words.WordsFault.{WordsFault}
 use Rattle.acng_cli.specs.Imports.{Lent}
 use Rattle.acng_cli.specs.Maint.{PrintsNone, RefusesCommand, RanPlain, reads_conf}
 use Rattle.acng_cli.specs.Opens.{Store, Given, MaySay, OpensBy, idle}
-use Rattle.acng_cli.specs.Tasks.{OpensNone, OpensSaying, UsesNone, RanBy, RanMaint, task_of}
+use Rattle.acng_cli.specs.Tasks.{OpensNone, OpensSaying, UsesNone, RanTask, RanBy, RanMaint, task_of}
 
 module _ {S W K Q : Type 0} (s : SiteGhosts S) (tells : Bool) (w : SinkGhosts W) (store : K → Store) (g : Given) (before after : ℕ)
     (keeper : K) where
@@ -103,3 +103,27 @@ task_reads command.Import todo is none = cc
 task_reads command.Report todo is none = cc
 task_reads command.CheckConf todo is none = cc
 task_reads (command.Gen n) todo is none = cc
+
+-- ---- by the words
+
+pub plain_status : {U W : Type 0} (u : SiteGhosts U) (w : SinkGhosts W) (text : Option (List ℕ)) (lists : List ListFile)
+    (before after : ℕ) (c : Command) (m n : ℕ) (old new : W) → m ≡ n → RanPlain u w text lists before after c m old new
+    → RanPlain u w text lists before after c n old new
+plain_status u w text lists before after c m n old new is h = subst (λ k. RanPlain u w text lists before after c k old new) is h
+
+module _ {S U W F K Q : Type 0} (s : SiteGhosts S) (u : SiteGhosts U) (tells : Bool) (w : SinkGhosts W) (f : FinderGhosts F)
+    (store : K → Store) (g : Given) (before after : ℕ) (keeper : K) (asked : Words) (old new : Lent W F) (e : Maint K Q) where
+  pub by_task : (t : Option Task) (todo : Task) → Some todo ≡ t
+      → RanTask s tells w f store g before after keeper todo asked old new e
+      → RanBy s u tells w f store g before after keeper t asked old new e
+  by_task t todo is h = subst (λ o. RanBy s u tells w f store g before after keeper o asked old new e) is h
+
+  pub by_none : (t : Option Task) → None ≡ t → UsesNone keeper old new e
+      → RanPlain u w g.text g.lists before after asked.command e.status old.out new.out
+      → RanBy s u tells w f store g before after keeper t asked old new e
+  by_none t is none h = subst (λ o. RanBy s u tells w f store g before after keeper o asked old new e) is (none, h)
+
+  pub by_read : (r : Result Words WordsFault) → Ok asked ≡ r
+      → RanBy s u tells w f store g before after keeper (task_of asked.command) asked old new e
+      → RanMaint s u tells w f store g before after keeper r old new e
+  by_read r is h = subst (λ x. RanMaint s u tells w f store g before after keeper x old new e) is h

@@ -1,29 +1,10 @@
-use Rattle.std.proofs.Common.{◌∙◌, sym, subst, ap}
+use Rattle.std.proofs.Common.{◌∙◌, sym, ap}
 use Rattle.acng_cli.specs.Maint.{asks_conf}
-use Rattle.acng_cli.specs.Tasks.{RanMaint}
-use Rattle.acng_cli.proofs.Tasks.{lacks}
+use Rattle.acng_cli.proofs.Tasks.{lacks, by_read}
 use Rattle.acng_cli.proofs.maint.run_maint.Goals as goal
 
 pub returns-in-Ok-clause-ran : goal.returns-in-Ok-clause-ran
-returns-in-Ok-clause-ran g c =
-    subst
-    (λ r. RanMaint g.S.Site _ g.K.Keeper.tells g.W.Sink g.F.Finder
-    (λ k. record { kept = g.K.Keeper.kept k; next_id = g.K.Keeper.next k; faults = g.K.Keeper.faults k })
-    (record {
-      text = g.I.Source.left c.args.conf.now;
-      lists = c.args.lists.now;
-      store = record {
-        kept = g.K.Keeper.kept c.args.keeper;
-        next_id = g.K.Keeper.next c.args.keeper;
-        faults = g.K.Keeper.faults c.args.keeper;
-      };
-      next_try = c.args.right.next;
-    })
-    (g.I.Source.faults c.args.conf.now) (g.I.Source.faults c.run_by.new.conf) c.args.keeper r
-    (record { out = c.args.out.now; coming = g.C.Clock.coming c.args.clock.now; found = c.args.finder.now })
-    (record { out = c.run_by.new.out; coming = g.C.Clock.coming c.run_by.new.clock; found = c.run_by.new.finder })
-    c.run_by.result)
-    (sym c.in-Ok.ensures.read) c.run_by.ensures.ran
+returns-in-Ok-clause-ran g c = by_read _ _ _ _ _ _ _ _ _ _ _ _ _ _ _ (sym c.in-Ok.ensures.read) c.run_by.ensures.ran
 
 pub returns-in-Ok-clause-unread : goal.returns-in-Ok-clause-unread
 returns-in-Ok-clause-unread g c = λ none. c.run_by.ensures.unread (ap asks_conf (sym c.in-Ok.ensures.read) ∙ none)
