@@ -65,6 +65,6 @@ if [ -c /dev/full ]; then
     }
     full "$work/conf/groups" 4 check-conf
     full "$work/conf/refused" 3 check-conf
-    full "$work/empty" 2 import
+    full "$work/empty" 2 import 3
 fi
 exit $failed
