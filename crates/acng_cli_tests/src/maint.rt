@@ -240,6 +240,9 @@ fn a_found_file_that_fails_is_said_to(rt: HostRuntime) -> Result<(), Fail> {
     };
     let (status, printed) = run(rt.alloc(), &[b"import"], b"", streams)?;
     assert_eq!(rt; status, 4);
-    assert_eq!(rt; printed.as_slice(), b"fault new.deb\nunknown odd?name?\n");
+    assert_eq!(rt;
+        printed.as_slice(),
+        b"fault new.deb\nunknown odd?name?\n".as_slice()
+    );
     Ok(())
 }
