@@ -89,6 +89,21 @@ by_night /bin/false 'done removed 0 marked 0' 0 'a run by night through the serv
 kill "$server"
 wait "$server" 2> /dev/null
 by_night "$root/usr/sbin/acng" 'done removed 0 marked 0' 0 'a run by night without a server'
+# What finds proxies by itself looks for them at 3142.
+if ! command -v auto-apt-proxy > /dev/null; then
+    echo "$check: auto-apt-proxy: skipped, it isn't there"
+elif (exec 4<> /dev/tcp/127.0.0.1/3142) 2> /dev/null; then
+    echo "$check: auto-apt-proxy: skipped, something else is at the port 3142"
+else
+    sed -i 's/^Port:.*/Port: 3142/' "$night/conf/acng.conf"
+    "$root/usr/sbin/acng" serve --conf "$night/conf/acng.conf" --cache "$night/cache" &
+    server=$!
+    sleep 1
+    found=$(timeout 30 auto-apt-proxy)
+    said 'auto-apt-proxy finds the server' "$([ "$found" = http://127.0.0.1:3142 ] && echo 0 || echo 1)" "$found"
+    kill "$server"
+    wait "$server" 2> /dev/null
+fi
 sed -i 's/^Port:.*/Port: 70000/' "$night/conf/acng.conf"
 line=$(grep -n '^Port:' "$night/conf/acng.conf" | cut -d : -f 1)
 by_night "$root/usr/sbin/acng" "line $line: BadNumber" 3 'a run by night with a refused configuration'
