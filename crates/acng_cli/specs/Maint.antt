@@ -112,7 +112,8 @@ PrintsGen u w n status old new = PrintsRun u w n status old new ⊎ PrintsNone s
 -- ---- a command that makes no desk
 
 -- what is said of the configuration, whose text may be known
-pub record SaysConf {W : Type 0} (w : SinkGhosts W) (text : Option (List ℕ)) (lists : List ListFile) (status : ℕ) (old new : W) : Type 0 where
+pub record SaysConf {W : Type 0} (w : SinkGhosts W) (text : Option (List ℕ)) (lists : List ListFile) (status : ℕ) (old new : W) : Type
+    0 where
   pub read : Result Settings ConfFault
   pub says : IfSome text (λ t. reading t lists ≡ read)
   pub printed : PrintsUnless w (of_conf read) status old new

@@ -112,14 +112,16 @@ pub record UsesNone {W F K Q : Type 0} (keeper : K) (old new : Lent W F) (e : Ma
   pub coming : new.coming ≡ old.coming
   pub found : new.found ≡ old.found
 
-abbrev pub RanBy : {S U W F K Q : Type 0} → SiteGhosts S → SiteGhosts U → Bool → SinkGhosts W → FinderGhosts F → (K → Store) → Given → ℕ → ℕ → K
+abbrev pub RanBy : {S U W F K Q : Type 0} → SiteGhosts S → SiteGhosts U → Bool → SinkGhosts W → FinderGhosts F
+    → (K → Store) → Given → ℕ → ℕ → K
     → Option Task → Words → Lent W F → Lent W F → Maint K Q → Type 0
 RanBy s u tells w f store g before after keeper (Some todo) asked old new e =
     RanTask s tells w f store g before after keeper todo asked old new e
 RanBy s u tells w f store g before after keeper None asked old new e =
     UsesNone keeper old new e × RanPlain u w g.text g.lists before after asked.command e.status old.out new.out
 
-abbrev pub RanMaint : {S U W F K Q : Type 0} → SiteGhosts S → SiteGhosts U → Bool → SinkGhosts W → FinderGhosts F → (K → Store) → Given → ℕ → ℕ → K
+abbrev pub RanMaint : {S U W F K Q : Type 0} → SiteGhosts S → SiteGhosts U → Bool → SinkGhosts W → FinderGhosts F
+    → (K → Store) → Given → ℕ → ℕ → K
     → Result Words WordsFault → Lent W F → Lent W F → Maint K Q → Type 0
 RanMaint s u tells w f store g before after keeper (Ok asked) old new e =
     RanBy s u tells w f store g before after keeper (task_of asked.command) asked old new e

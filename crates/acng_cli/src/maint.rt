@@ -50,7 +50,8 @@ pub fn run_maint<S: Site, K: Keeper, F: Finder, C: Clock, I: Source, W: Sink>(
 ) -> Maint<K, SlipOf<K>>
     requires faithful { K.tells ≡ true → IsFaithful S.Site (K.kept keeper) }
     requires told { S.tells ≡ true → K.tells ≡ true }
-    ensures ran { RanMaint S.Site ⟦<Untold as Site>⟧ K.tells W.Sink F.Finder (λ k. record { kept = K.kept k; next_id = K.next k; faults = K.faults k })
+    ensures ran { RanMaint S.Site ⟦<Untold as Site>⟧ K.tells W.Sink F.Finder
+        (λ k. record { kept = K.kept k; next_id = K.next k; faults = K.faults k })
         (record {
           text = I.left conf.old;
           lists = lists.now;
@@ -85,7 +86,8 @@ fn run_by<S: Site, K: Keeper, F: Finder, C: Clock, I: Source, W: Sink>(
 ) -> Maint<K, SlipOf<K>>
     requires faithful { K.tells ≡ true → IsFaithful S.Site (K.kept keeper) }
     requires told { S.tells ≡ true → K.tells ≡ true }
-    ensures ran { RanBy S.Site ⟦<Untold as Site>⟧ K.tells W.Sink F.Finder (λ k. record { kept = K.kept k; next_id = K.next k; faults = K.faults k })
+    ensures ran { RanBy S.Site ⟦<Untold as Site>⟧ K.tells W.Sink F.Finder
+        (λ k. record { kept = K.kept k; next_id = K.next k; faults = K.faults k })
         (record {
           text = I.left conf.old;
           lists = lists.now;
@@ -131,7 +133,8 @@ fn run_plain<I: Source, W: Sink>(
     lists: &[ListFile],
     out: &mut W,
 ) -> u8
-    ensures ran { RanPlain ⟦<Untold as Site>⟧ W.Sink (I.left conf.old) lists.now (I.faults conf.old) (I.faults conf.new) command result out.old out.new }
+    ensures ran { RanPlain ⟦<Untold as Site>⟧ W.Sink (I.left conf.old) lists.now (I.faults conf.old) (I.faults conf.new)
+        command result out.old out.new }
     ensures unread { reads_conf command ≡ false → conf.new ≡ conf.old }
     ensures reads { ReadsFew (I.left conf.old) (I.left conf.new) }
 {

@@ -38,9 +38,9 @@ pub struct Single<K: Drop, Q> {
 ///
 /// Words that aren't read, or that name another command, give status 2, and nothing is done. Else a desk is opened over the
 /// keeper, one request of the client answered, and the keeper given back. The status is 0 where the reply went out whole
-/// and sent the file or the report page, or said that there is nothing to send of a file; 7 where the client ended before its request was whole; 4
-/// where the client's link failed; 5 where a call of the keeper failed; 6 where memory was refused; and 1 for every other
-/// reply. A desk that isn't opened has the statuses of `open_desk`.
+/// and sent the file or the report page, or said that there is nothing to send of a file; 7 where the client ended before its
+/// request was whole; 4 where the client's link failed; 5 where a call of the keeper failed; 6 where memory was refused; and 1
+/// for every other reply. A desk that isn't opened has the statuses of `open_desk`.
 pub fn run_single<S: Site, K: Keeper, O: Origin<S>, C: Clock, I: Source, L: Link>(
     alloc: Global,
     words: &[Text],

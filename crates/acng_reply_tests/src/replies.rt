@@ -138,7 +138,7 @@ fn push_line(text: &mut Vec<u8>, word: &str) -> Result<(), Fail> {
     }
 }
 
-// A length as `L3`, or a range as `R0-2/3`.
+// A length is an `L` and its number, a range an `R` and what its field says of the bytes.
 fn push_number(text: &mut Vec<u8>, word: &str) -> Result<(), Fail> {
     match word.strip_prefix('L') {
         Some(length) => {
