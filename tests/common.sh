@@ -53,3 +53,30 @@ compare() {
     { [ "$2" = "$3" ] && cmp -s "$4" "$5"; } || bad=1
     said "$1" "$bad" "status $2, wanted $3, or other bytes"
 }
+
+# ---- a command over the folder `$cache`, by the configuration `$work/acng.conf`
+
+# ask PATH: has `once` ask for a file of the mirror, and keep it
+ask() {
+    printf 'GET http://%s/%s HTTP/1.1\r\n\r\n' "$host" "$1" |
+        timeout 50 "$program" once --conf "$work/acng.conf" --cache "$cache" > "$work/reply"
+}
+# fetch PATH: the same of a file that comes
+fetch() { ask "$1" || said "fetch $1" 1 "status $?"; }
+# prints_file NAME STATUS FILE WORD..: the status of the command that the check is named by, over these words, and that it prints what
+# the file has, where nobody is asked and nothing is said beside
+prints_file() {
+    local name=$1 status=$2 wanted=$3 before bad=0 got
+    shift 3
+    before=$(wc -l < "$work/log")
+    timeout 50 "$program" "$check" "$@" < /dev/null > "$work/printed" 2> "$work/said"
+    got=$?
+    { [ "$got" = "$status" ] && cmp -s "$work/printed" "$wanted" && [ ! -s "$work/said" ]; } || bad=1
+    [ "$(wc -l < "$work/log")" = "$before" ] || bad=1
+    said "$name" "$bad" "status $got, wanted $status, or it printed: $(diff "$work/printed" "$wanted" | head -c 400)"
+}
+# prints NAME STATUS TEXT WORD..: the same of a text
+prints() {
+    printf '%b' "$3" > "$work/wanted"
+    prints_file "$1" "$2" "$work/wanted" "${@:4}"
+}

@@ -28,23 +28,6 @@ printf 'ExAbortOnProblems: 0\n' > "$work/never.conf"
 printf 'ExAbortOnProblems: 2\n' > "$work/two.conf"
 cache=$work/cache
 
-# fetch PATH: has `once` fetch it
-fetch() {
-    printf 'GET http://%s/tree/%s HTTP/1.1\r\n\r\n' "$host" "$1" |
-        timeout 50 "$program" once --conf "$work/acng.conf" --cache "$cache" > "$work/reply" || said "fetch $1" 1 "status $?"
-}
-# expect NAME STATUS WANTED WORD..: the status, and what is printed, where nobody is asked and nothing is said beside
-expect() {
-    local name=$1 status=$2 wanted=$3 before bad=0 got
-    shift 3
-    before=$(wc -l < "$work/log")
-    printf '%b' "$wanted" > "$work/wanted"
-    timeout 50 "$program" expire "$@" < /dev/null > "$work/printed" 2> "$work/said"
-    got=$?
-    { [ "$got" = "$status" ] && cmp -s "$work/printed" "$work/wanted" && [ ! -s "$work/said" ]; } || bad=1
-    [ "$(wc -l < "$work/log")" = "$before" ] || bad=1
-    said "$name" "$bad" "status $got, wanted $status, or it printed: $(head -c 400 "$work/printed")"
-}
 # holds NAME ROW..: the rows of the report, a row being a path, a size and a mark, where `now` is a moment of this check
 holds() {
     local name=$1 bad=0 seen
@@ -67,13 +50,13 @@ mark_long_ago() {
 with=(--conf "$work/acng.conf" --cache "$cache")
 began=$(date +%s)
 
-expect 'an empty cache' 0 'done removed 0 marked 0\n' "${with[@]}"
-fetch pool/a_1_all.deb
-fetch pool/b_1_all.deb
+prints 'an empty cache' 0 'done removed 0 marked 0\n' "${with[@]}"
+fetch tree/pool/a_1_all.deb
+fetch tree/pool/b_1_all.deb
 a='pool/a_1_all.deb 3' b='pool/b_1_all.deb 4' index="dists/s/InRelease $release -" packages="dists/s/$list $size -"
-expect 'files without an index' 1 'aborted problems 1\n' "${with[@]}"
+prints 'files without an index' 1 'aborted problems 1\n' "${with[@]}"
 holds 'then nothing is marked' "$a -" "$b -"
-fetch dists/s/InRelease
+fetch tree/dists/s/InRelease
 
 # No file may grow in this run, so its first mark can't be written. Its line goes into a pipe, which is no file.
 cp -r "$cache" "$work/other"
@@ -88,12 +71,12 @@ said "a mark that can't be written" "$bad" "$seen"
 cache=$work/other holds 'then nothing is marked either' "$index" "$a -" "$b -"
 rm -r "$work/other"
 
-expect 'an index without its list' 0 'done removed 0 marked 2\n' "${with[@]}"
+prints 'an index without its list' 0 'done removed 0 marked 2\n' "${with[@]}"
 holds 'what no list names is marked' "$index" "$a now" "$b now"
-fetch "dists/s/$list"
-expect 'an index and its list' 0 'done removed 0 marked 1\n' "${with[@]}"
+fetch "tree/dists/s/$list"
+prints 'an index and its list' 0 'done removed 0 marked 1\n' "${with[@]}"
 holds 'what the list names has no mark' "$index" "$packages" "$a -" "$b now"
-expect 'the same again' 0 'done removed 0 marked 1\n' "${with[@]}"
+prints 'the same again' 0 'done removed 0 marked 1\n' "${with[@]}"
 holds 'and all stay' "$index" "$packages" "$a -" "$b now"
 
 # Marks of long ago, first where the list in the folder isn't the one that the index names.
@@ -102,14 +85,14 @@ mark_long_ago pool/b_1_all.deb
 body=$cache/b-$(number_of "dists/s/$list")
 cp "$body" "$work/list"
 tr 'P' 'Q' < "$work/list" > "$body"
-expect 'another list than the one that is named' 1 'aborted problems 1\n' "${with[@]}"
+prints 'another list than the one that is named' 1 'aborted problems 1\n' "${with[@]}"
 holds 'then nothing is removed' "$index" "$packages" "$a 1000" "$b 1000"
-expect 'that, and a configuration that is refused' 3 'line 1: BadNumber\n' --conf "$work/refused.conf" --cache "$cache"
+prints 'that, and a configuration that is refused' 3 'line 1: BadNumber\n' --conf "$work/refused.conf" --cache "$cache"
 cp -r "$cache" "$work/other"
-expect 'one problem of at most one' 0 'done removed 2 marked 0\n' --conf "$work/two.conf" --cache "$work/other"
+prints 'one problem of at most one' 0 'done removed 2 marked 0\n' --conf "$work/two.conf" --cache "$work/other"
 rm -r "$work/other"
 cp -r "$cache" "$work/other"
-expect 'no limit of problems' 0 'done removed 2 marked 0\n' --conf "$work/never.conf" --cache "$work/other"
+prints 'no limit of problems' 0 'done removed 2 marked 0\n' --conf "$work/never.conf" --cache "$work/other"
 rm -r "$work/other"
 
 # The second of two bodies can't be removed, since it is a folder with something in it. Its head went before it.
@@ -118,7 +101,7 @@ first=$(number_of pool/a_1_all.deb) second=$(number_of pool/b_1_all.deb)
 rm "$work/other/b-$second"
 mkdir -p "$work/other/b-$second/stays"
 sed -i "s/^size .*/size $(stat -c %s "$work/other/b-$second")/" "$work/other/h-$second"
-expect "a body that can't be removed" 5 'stopped removed 1\n' --conf "$work/never.conf" --cache "$work/other"
+prints "a body that can't be removed" 5 'stopped removed 1\n' --conf "$work/never.conf" --cache "$work/other"
 bad=0
 for name in "b-$first" "h-$first" "h-$second"; do [ ! -e "$work/other/$name" ] || bad=1; done
 [ -d "$work/other/b-$second/stays" ] || bad=1
@@ -133,17 +116,17 @@ if [ -c /dev/full ]; then
 fi
 cp "$work/list" "$body"
 gone=$cache/b-$(number_of pool/b_1_all.deb) stays=$cache/b-$(number_of pool/a_1_all.deb)
-expect 'the list again' 0 'done removed 1 marked 0\n' "${with[@]}"
+prints 'the list again' 0 'done removed 1 marked 0\n' "${with[@]}"
 holds 'what was unreached for too long went' "$index" "$packages" "$a -"
 bad=0
 { [ ! -e "$gone" ] && [ "$(cat "$stays")" = abc ]; } || bad=1
 said 'its file too, and no other' "$bad" "$(ls "$cache")"
 
-expect 'a configuration that is refused' 3 'line 1: BadNumber\n' --conf "$work/refused.conf" --cache "$cache"
-expect "a configuration that isn't there" 4 '' --conf "$work/nowhere.conf" --cache "$cache"
-expect 'a stray number' 2 'words: StrayNumber\n' 3
-expect 'a folder that is a file' 5 '' --conf "$work/acng.conf" --cache "$work/body"
-expect 'that, and a configuration that is refused' 3 'line 1: BadNumber\n' --conf "$work/refused.conf" --cache "$work/body"
+prints 'a configuration that is refused' 3 'line 1: BadNumber\n' --conf "$work/refused.conf" --cache "$cache"
+prints "a configuration that isn't there" 4 '' --conf "$work/nowhere.conf" --cache "$cache"
+prints 'a stray number' 2 'words: StrayNumber\n' 3
+prints 'a folder that is a file' 5 '' --conf "$work/acng.conf" --cache "$work/body"
+prints 'that, and a configuration that is refused' 3 'line 1: BadNumber\n' --conf "$work/refused.conf" --cache "$work/body"
 if [ -c /dev/full ]; then
     timeout 50 "$program" expire "${with[@]}" < /dev/null > /dev/full 2> "$work/said"
     got=$?

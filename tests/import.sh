@@ -57,39 +57,23 @@ start_mirror "$tree"
 : > "$work/acng.conf"
 printf 'Port: 70000\n' > "$work/refused.conf"
 
-# fetch PATH: has `once` fetch it
-fetch() {
-    printf 'GET http://%s/tree/%s HTTP/1.1\r\n\r\n' "$host" "$1" |
-        timeout 50 "$program" once --conf "$work/acng.conf" --cache "$cache" > "$work/reply" || said "fetch $1" 1 "status $?"
-}
-# expect NAME STATUS WANTED WORD..: the status, and what is printed beside a file, where nobody is asked and nothing is said beside
-expect() {
-    local name=$1 status=$2 wanted=$3 before bad=0 got
-    shift 3
-    before=$(wc -l < "$work/log")
-    timeout 50 "$program" import "$@" < /dev/null > "$work/printed" 2> "$work/said"
-    got=$?
-    { [ "$got" = "$status" ] && cmp -s "$work/printed" "$wanted" && [ ! -s "$work/said" ]; } || bad=1
-    [ "$(wc -l < "$work/log")" = "$before" ] || bad=1
-    said "$name" "$bad" "status $got, wanted $status, or it printed: $(diff "$work/printed" "$wanted" | head -c 400)"
-}
 with=(--conf "$work/acng.conf" --cache "$cache")
 : > "$work/none"
 printf 'line 1: BadNumber\n' > "$work/bad"
 
-expect 'no import folder' 0 "$work/none" "${with[@]}"
+prints_file 'no import folder' 0 "$work/none" "${with[@]}"
 mkdir "$found"
-expect 'an empty one' 0 "$work/none" "${with[@]}"
+prints_file 'an empty one' 0 "$work/none" "${with[@]}"
 # Neither is a found file: a folder, a link to nothing, and a name that isn't UTF-8, where the file system takes one.
 mkdir "$found/folder"
 ln -s nowhere "$found/dangling"
 : > "$found/"$'p\xff.deb' 2> /dev/null
 cp "$work/found/"* "$found"
-expect 'files without an index' 0 "$work/unknown" "${with[@]}"
-for path in dists/s/InRelease dists/s/main/binary-all/Packages pool/p00_1_all.deb pool/p01_1_all.deb pool/p02_1_all.deb; do fetch "$path"; done
-expect 'a configuration that is refused' 3 "$work/bad" --conf "$work/refused.conf" --cache "$cache"
-expect '100 files and an index' 0 "$work/first" "${with[@]}"
-expect 'the same again' 0 "$work/second" "${with[@]}"
+prints_file 'files without an index' 0 "$work/unknown" "${with[@]}"
+for path in dists/s/InRelease dists/s/main/binary-all/Packages pool/p00_1_all.deb pool/p01_1_all.deb pool/p02_1_all.deb; do fetch "tree/$path"; done
+prints_file 'a configuration that is refused' 3 "$work/bad" --conf "$work/refused.conf" --cache "$cache"
+prints_file '100 files and an index' 0 "$work/first" "${with[@]}"
+prints_file 'the same again' 0 "$work/second" "${with[@]}"
 
 # What was imported is held, and served without the mirror.
 timeout 50 "$program" report "${with[@]}" < /dev/null > "$work/table"
@@ -100,7 +84,7 @@ said 'all 64 packages and the index are held' "$bad" "$(tail -n 1 "$work/table")
 before=$(wc -l < "$work/log")
 bad=0
 for k in 03 05 07 08 09 10 11 20 26 63; do
-    fetch "pool/p${k}_1_all.deb"
+    fetch "tree/pool/p${k}_1_all.deb"
     file="$tree/pool/p${k}_1_all.deb"
     { file_head "Content-Length: $(stat -c %s "$file")\r\n"; cat "$file"; } > "$work/wanted"
     cmp -s "$work/reply" "$work/wanted" || bad=1
@@ -120,7 +104,7 @@ said 'an expiration leaves them too' "$bad" "$(cat "$work/printed")"
 if [ -f /proc/self/mem ]; then
     ln -s /proc/self/mem "$found/zz"
     { cat "$work/second"; printf 'fault zz\n'; } > "$work/wanted"
-    expect "a file that can't be read" 4 "$work/wanted" "${with[@]}"
+    prints_file "a file that can't be read" 4 "$work/wanted" "${with[@]}"
     rm "$found/zz"
 else
     echo "import: a file that can't be read: skipped, there is no /proc/self/mem"
@@ -134,12 +118,12 @@ if [ -c /dev/full ]; then
 fi
 
 printf 'words: StrayNumber\n' > "$work/stray"
-expect "a configuration that isn't there" 4 "$work/none" --conf "$work/nowhere.conf" --cache "$cache"
-expect 'a stray number' 2 "$work/stray" 3
-expect 'a folder that is a file' 5 "$work/none" --conf "$work/acng.conf" --cache "$work/body"
-expect 'that, and a configuration that is refused' 3 "$work/bad" --conf "$work/refused.conf" --cache "$work/body"
+prints_file "a configuration that isn't there" 4 "$work/none" --conf "$work/nowhere.conf" --cache "$cache"
+prints_file 'a stray number' 2 "$work/stray" 3
+prints_file 'a folder that is a file' 5 "$work/none" --conf "$work/acng.conf" --cache "$work/body"
+prints_file 'that, and a configuration that is refused' 3 "$work/bad" --conf "$work/refused.conf" --cache "$work/body"
 mkdir "$work/other"
 : > "$work/other/_import"
-expect 'an import folder that is a file' 4 "$work/none" --conf "$work/acng.conf" --cache "$work/other"
-expect 'that, and a configuration that is refused' 3 "$work/bad" --conf "$work/refused.conf" --cache "$work/other"
+prints_file 'an import folder that is a file' 4 "$work/none" --conf "$work/acng.conf" --cache "$work/other"
+prints_file 'that, and a configuration that is refused' 3 "$work/bad" --conf "$work/refused.conf" --cache "$work/other"
 exit $failed

@@ -13,27 +13,10 @@ printf 'PfilePatternEx: extra$\n' > "$work/acng.conf"
 printf 'Port: 70000\n' > "$work/refused.conf"
 cache=$work/cache
 
-# fetch PATH: has `once` fetch it
-fetch() {
-    printf 'GET http://%s/%s HTTP/1.1\r\n\r\n' "$host" "$1" |
-        timeout 50 "$program" once --conf "$work/acng.conf" --cache "$cache" > "$work/reply"
-}
-# expect NAME STATUS WANTED WORD..: the status, and what is printed, where nobody is asked and nothing is said beside
-expect() {
-    local name=$1 status=$2 wanted=$3 before bad=0 got
-    shift 3
-    before=$(wc -l < "$work/log")
-    printf '%b' "$wanted" > "$work/wanted"
-    timeout 50 "$program" report "$@" < /dev/null > "$work/printed" 2> "$work/said"
-    got=$?
-    { [ "$got" = "$status" ] && cmp -s "$work/printed" "$work/wanted" && [ ! -s "$work/said" ]; } || bad=1
-    [ "$(wc -l < "$work/log")" = "$before" ] || bad=1
-    said "$name" "$bad" "status $got, wanted $status, or it printed: $(head -c 400 "$work/printed")"
-}
 
-expect 'an empty cache' 0 'rows 0 bytes 0\n' --conf "$work/acng.conf" --cache "$cache"
+prints 'an empty cache' 0 'rows 0 bytes 0\n' --conf "$work/acng.conf" --cache "$cache"
 for path in whole/b.deb dated/InRelease whole/a.extra empty/a.deb chunks/a.deb 'whole/%3Ca&b%3E.deb'; do fetch "$path"; done
-fetch whole/x.cc
+ask whole/x.cc
 table="$host/chunks/a.deb 3 solid -
 $host/dated/InRelease 3 volatile -
 $host/empty/a.deb 0 solid -
@@ -42,24 +25,24 @@ $host/whole/a.extra 5000 solid -
 $host/whole/b.deb 5000 solid -
 rows 6 bytes 15006
 "
-expect 'what was fetched' 0 "$table" --conf "$work/acng.conf" --cache "$cache"
-expect 'the same again' 0 "$table" --conf "$work/acng.conf" --cache "$cache"
+prints 'what was fetched' 0 "$table" --conf "$work/acng.conf" --cache "$cache"
+prints 'the same again' 0 "$table" --conf "$work/acng.conf" --cache "$cache"
 # Without its pattern a file is of another class, and still held.
 : > "$work/none.conf"
-expect 'another configuration' 0 "${table/a.extra 5000 solid/a.extra 5000 forbidden}" --conf "$work/none.conf" --cache "$cache"
+prints 'another configuration' 0 "${table/a.extra 5000 solid/a.extra 5000 forbidden}" --conf "$work/none.conf" --cache "$cache"
 # A folder as another run may have left it: a file with a mark, and a head without its body.
 mkdir "$work/made"
 head_record() { printf 'acng-head 1\npath %s\norigin fetched 0 0\nsize %s\nchecked 5\n%bend\n' "$1" "$2" "$3"; }
 printf abc > "$work/made/b-0000000000000001"
 head_record h/p.deb 3 'mark 1000\n' > "$work/made/h-0000000000000001"
 head_record h/gone.deb 3 '' > "$work/made/h-0000000000000002"
-expect 'a mark' 0 'h/p.deb 3 solid 1000\nrows 1 bytes 3\n' --conf "$work/none.conf" --cache "$work/made"
+prints 'a mark' 0 'h/p.deb 3 solid 1000\nrows 1 bytes 3\n' --conf "$work/none.conf" --cache "$work/made"
 
-expect 'a configuration that is refused' 3 'line 1: BadNumber\n' --conf "$work/refused.conf" --cache "$cache"
-expect "a configuration that isn't there" 4 '' --conf "$work/nowhere.conf" --cache "$cache"
-expect 'a stray number' 2 'words: StrayNumber\n' 3
-expect 'a folder that is a file' 5 '' --conf "$work/acng.conf" --cache "$work/body"
-expect 'that, and a configuration that is refused' 3 'line 1: BadNumber\n' --conf "$work/refused.conf" --cache "$work/body"
+prints 'a configuration that is refused' 3 'line 1: BadNumber\n' --conf "$work/refused.conf" --cache "$cache"
+prints "a configuration that isn't there" 4 '' --conf "$work/nowhere.conf" --cache "$cache"
+prints 'a stray number' 2 'words: StrayNumber\n' 3
+prints 'a folder that is a file' 5 '' --conf "$work/acng.conf" --cache "$work/body"
+prints 'that, and a configuration that is refused' 3 'line 1: BadNumber\n' --conf "$work/refused.conf" --cache "$work/body"
 if [ -c /dev/full ]; then
     timeout 50 "$program" report --conf "$work/acng.conf" --cache "$cache" < /dev/null > /dev/full 2> "$work/said"
     got=$?

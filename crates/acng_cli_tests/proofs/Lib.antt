@@ -1,3 +1,1 @@
 mod Empty
-mod HonestFile
-mod Serves

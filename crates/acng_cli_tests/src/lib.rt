@@ -5,7 +5,6 @@
 mod cache;
 #[cfg(test)]
 mod failing;
-pub mod honest;
 #[cfg(test)]
 mod maint;
 #[cfg(test)]

@@ -25,8 +25,8 @@
 //! - `*N TEXT`: the same, N times.
 //! - `vary keeper FROM TO`, `vary link FROM TO`, `vary front FROM TO`: the script is run once for each number from FROM up
 //!   to and without TO: with this call of the keeper or of the last client's link failing, or with a fault behind so many
-//!   bytes of the last answer; or `nothing` varies. With `sweep` in place of `vary` only the count of lines and the SHA-256 of what these runs
-//!   would print are printed.
+//!   bytes of the last answer; or `nothing` varies. With `sweep` in place of `vary` only the count of lines and the SHA-256 of
+//!   what these runs would print are printed.
 //!
 //! # What is printed
 //!
