@@ -1,9 +1,10 @@
 #!/usr/bin/env bash
-# apt itself over the cache: a small repository behind a mirror on the loopback, and a super-server that starts one `acng once`
-# for each connection. `apt-get update` and `apt-get download` run in a private root; apt compares every hash. In the second
-# round, with nothing left in apt's root, the mirror is asked for nothing but files that may change. Then apt goes on with half of
-# a package.
-# Once with indexes by their hashes and once by their names.
+# apt itself over the cache: a small repository behind a mirror on the loopback. `apt-get update` and `apt-get download` run in
+# private roots; apt compares every hash. In a second round, with nothing left in apt's roots, the mirror is asked for nothing but
+# files that may change.
+# First one root over a super-server that starts one `acng once` for each connection; then apt also goes on with half of a package.
+# Then four roots at once over `acng serve`: two by a proxy setting, and two by the mirror's name in the proxy's own URLs.
+# Each once with indexes by their hashes and once by their names.
 set -u
 cd "$(dirname "$0")/.." || exit 1
 check=apt
@@ -77,45 +78,62 @@ while True:
 PYTHON
 }
 
-# ---- apt in a root of its own, which knows one proxy
+# ---- apt in a root of its own
 
+# make_root ROOT URL PROXY: a root for the repository at the URL, by the proxy, or by none where that is empty
 make_root() {
-    rm -rf "$work/root"
-    mkdir -p "$work/root/etc/apt/preferences.d" "$work/root/etc/apt/trusted.gpg.d" "$work/root/var/lib/apt/lists/partial" \
-        "$work/root/var/cache/apt/archives/partial" "$work/root/var/lib/dpkg" "$work/downloads"
-    : > "$work/root/var/lib/dpkg/status"
-    echo "deb [trusted=yes arch=amd64] http://$host/tree/$1 stable main" > "$work/root/etc/apt/sources.list"
-    cat > "$work/apt.conf" << CONF
-Dir "$work/root";
+    local root=$1
+    rm -rf "$root"
+    mkdir -p "$root/etc/apt/preferences.d" "$root/etc/apt/trusted.gpg.d" "$root/var/lib/apt/lists/partial" \
+        "$root/var/cache/apt/archives/partial" "$root/var/lib/dpkg" "$root/downloads"
+    : > "$root/var/lib/dpkg/status"
+    echo "deb [trusted=yes arch=amd64] $2 stable main" > "$root/etc/apt/sources.list"
+    cat > "$root/apt.conf" << CONF
+Dir "$root";
 Dir::Bin::methods "/usr/lib/apt/methods";
-Dir::State::status "$work/root/var/lib/dpkg/status";
+Dir::State::status "$root/var/lib/dpkg/status";
 Dir::Etc::main "/dev/null";
 Dir::Etc::parts "/dev/null";
-Dir::Log "$work/root";
+Dir::Log "$root";
 APT::Architecture "amd64";
 APT::Architectures { "amd64"; };
 APT::Sandbox::User "";
 APT::Update::Error-Mode "any";
 Acquire::Languages "none";
 Acquire::Retries "0";
-Acquire::http::Proxy "http://127.0.0.1:$proxy";
-Acquire::http::Pipeline-Depth "0";
+Acquire::http::Proxy "${3:-DIRECT}";
 CONF
 }
-apt() { env -u http_proxy -u no_proxy -u HTTP_PROXY -u NO_PROXY APT_CONFIG="$work/apt.conf" LC_ALL=C "$@"; }
-
-# round NAME REPOSITORY: an update and a download of everything in an empty root
-round() {
+# in_root ROOT COMMAND..: apt there
+in_root() { env -u http_proxy -u no_proxy -u HTTP_PROXY -u NO_PROXY APT_CONFIG="$1/apt.conf" LC_ALL=C "${@:2}"; }
+# fill ROOT REPOSITORY: an update and a download of everything, each package compared
+fill() {
     local bad=0
-    make_root "$2"
-    rm -rf "$work/downloads" && mkdir "$work/downloads"
-    : > "$work/log"
-    apt apt-get update > "$work/update" 2>&1 || bad=1
-    (cd "$work/downloads" && apt apt-get download $(seq -f 'koala%02g' 0 19)) > "$work/download" 2>&1 || bad=1
+    in_root "$1" apt-get update > "$1/said" 2>&1 || bad=1
+    (cd "$1/downloads" && in_root "$1" apt-get download $(seq -f 'koala%02g' 0 19)) >> "$1/said" 2>&1 || bad=1
     for package in "$work/$2/pool/main"/*.deb; do
-        cmp -s "$package" "$work/downloads/$(basename "$package")" || bad=1
+        cmp -s "$package" "$1/downloads/$(basename "$package")" || bad=1
     done
-    said "$1" "$bad" "$(cat "$work/update" "$work/download")"
+    return $bad
+}
+# only_changing NAME BY_HASH: that the mirror was asked for what may change alone. With hashes in the names even lists don't.
+only_changing() {
+    local volatile='/(InRelease|Release|Release.gpg|Packages) [0-9]+( date)?$'
+    [ "$2" = yes ] && volatile='/(InRelease|Release|Release.gpg) [0-9]+( date)?$'
+    ! grep -Evq "$volatile" "$work/log" && [ -s "$work/log" ]
+    said "$1" $? "$(cat "$work/log")"
+}
+
+# ---- one root over `once`
+
+# round NAME REPOSITORY: everything into an empty root
+round() {
+    make_root "$work/root" "http://$host/tree/$2" "http://127.0.0.1:$proxy"
+    # (one program at a time is no match for requests ahead)
+    echo 'Acquire::http::Pipeline-Depth "0";' >> "$work/root/apt.conf"
+    : > "$work/log"
+    fill "$work/root" "$2"
+    said "$1" $? "$(cat "$work/root/said")"
 }
 
 printf 'FreshIndexMaxAge: 0\n' > "$work/acng.conf"
@@ -135,22 +153,51 @@ for by_hash in yes no; do
     said "by hash $by_hash: each package is asked for once" $? "$(cat "$work/log")"
     sleep 1.1
     round "by hash $by_hash: the second round" "$repository"
-    # With their hashes in the name even the lists don't change.
-    volatile='/(InRelease|Release|Release.gpg|Packages) [0-9]+( date)?$'
-    [ "$by_hash" = yes ] && volatile='/(InRelease|Release|Release.gpg) [0-9]+( date)?$'
-    ! grep -Evq "$volatile" "$work/log" && [ -s "$work/log" ]
-    said "by hash $by_hash: only what may change is asked for again" $? "$(cat "$work/log")"
+    only_changing "by hash $by_hash: only what may change is asked for again" "$by_hash"
     # apt has half of a package, and goes on with it by a range and the file's date.
     whole=$work/$repository/pool/main/koala19_1.0_all.deb
     archives=$work/root/var/cache/apt/archives
     half=$archives/partial/$(basename "$whole")
     head -c 100000 "$whole" > "$half"
     touch -r "$whole" "$half"
-    apt apt-get -o Debug::Acquire::http=true install -y -d koala19 > "$work/download" 2>&1
+    in_root "$work/root" apt-get -o Debug::Acquire::http=true install -y -d koala19 > "$work/download" 2>&1
     { cmp -s "$whole" "$archives/$(basename "$whole")" && grep -aq '206 Partial Content' "$work/download"; }
     said "by hash $by_hash: a package that broke off is gone on with" $? "$(cat "$work/download")"
     [ ! -s "$work/statuses_$by_hash" ]
     said "by hash $by_hash: no run fails" $? "$(cat "$work/statuses_$by_hash")"
     kill "$server"
 done
+
+# ---- four roots at once over `serve`
+
+# fill_four NAME REPOSITORY: everything into four empty roots at once
+fill_four() {
+    local bad=0 jobs=()
+    : > "$work/log"
+    for number in 1 2 3 4; do
+        if [ $number -le 2 ]; then
+            make_root "$work/root$number" "http://$host/tree/$2" "http://127.0.0.1:$port"
+        else
+            make_root "$work/root$number" "http://127.0.0.1:$port/$host/tree/$2" ''
+        fi
+        fill "$work/root$number" "$2" &
+        jobs+=($!)
+    done
+    for job in "${jobs[@]}"; do wait "$job" || bad=1; done
+    said "$1" "$bad" "$(cat "$work"/root[1-4]/said)"
+}
+
+configure_server 'FreshIndexMaxAge: 0'
+cache=$work/served
+start_server
+for by_hash in yes no; do
+    repository=hash_$by_hash
+    fill_four "four at once, by hash $by_hash" "$repository"
+    [ "$(grep -c '\.deb 200$' "$work/log")" = 20 ]
+    said "four at once, by hash $by_hash: each package is asked for once" $? "$(cat "$work/log")"
+    sleep 1.1
+    fill_four "four at once, by hash $by_hash: the second round" "$repository"
+    only_changing "four at once, by hash $by_hash: only what may change is asked for again" "$by_hash"
+done
+kill "$server"
 exit $failed

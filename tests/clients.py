@@ -211,6 +211,34 @@ def after(port, host, folder):
     run([lambda number=number: one(number) for number in range(30)])
 
 
+# No file above 100 KiB can be kept, of those of 90 KB to 261 KB. A new one above that is refused or ends early; a small new one and
+# all that are held are whole.
+def full(port, host, folder):
+    for name in files(folder):
+        status, _, body = Client(port).get("/%s/tree/%s" % (host, name))
+        if status != 200 or body != bytes_of(folder, name):
+            print("held %s: status %d, %d bytes" % (name, status, len(body)))
+    status, _, body = Client(port).get("/%s/named/new_1_all.deb" % host)
+    if status == 200 and len(body) > 102_400 or status not in (200, 500):
+        print("a new file: status %d, %d bytes" % (status, len(body)))
+    status, _, body = Client(port).get("/%s/dated/small_1_all.deb" % host)
+    if (status, body) != (200, b"abc"):
+        print("a small file: status %d, %d bytes" % (status, len(body)))
+
+
+# 200 connections say nothing. Another client gets its file all the same, once enough of them have been given up.
+def silent(port, host, folder):
+    quiet = [connect(port) for _ in range(200)]
+    name = files(folder)[0]
+    client = Client(port)
+    client.stream.settimeout(140)
+    status, _, body = client.get("/%s/tree/%s" % (host, name))
+    if status != 200 or body != bytes_of(folder, name):
+        print("%s: status %d, %d bytes" % (name, status, len(body)))
+    for stream in quiet:
+        stream.close()
+
+
 CHECKS = {"crowd": crowd, "line": line, "behind": behind, "stalls": stalls, "loads": loads, "after": after, "page": page,
-          "expire": expire}
+          "expire": expire, "full": full, "silent": silent}
 CHECKS[sys.argv[4]](int(sys.argv[1]), sys.argv[2], sys.argv[3])

@@ -80,3 +80,22 @@ prints() {
     printf '%b' "$3" > "$work/wanted"
     prints_file "$1" "$2" "$work/wanted" "${@:4}"
 }
+
+# ---- a server over the folder `$cache`, by the configuration `$work/acng.conf`
+
+# configure_server LINE..: a port of the loopback that is free, `$port`, and these lines
+configure_server() {
+    port=$(python3 -c 'import socket; s = socket.socket(); s.bind(("127.0.0.1", 0)); print(s.getsockname()[1])')
+    printf '%s\n' 'BindAddress: 127.0.0.1' "Port: $port" "$@" > "$work/acng.conf"
+}
+# start_server [COMMAND..]: the program, run by the command, once it takes connections; `$server` is its process
+start_server() {
+    "$@" "$program" serve --conf "$work/acng.conf" --cache "$cache" > "$work/said" 2>&1 3>&- &
+    server=$!
+    for _ in $(seq 100); do
+        python3 -c 'import socket, sys; socket.create_connection(("127.0.0.1", int(sys.argv[1])))' "$port" 2> /dev/null && return
+        sleep 0.1
+    done
+    echo "$check: the server doesn't start"
+    exit 1
+}
