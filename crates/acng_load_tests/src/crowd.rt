@@ -20,8 +20,9 @@ pub type House = Desk<Untold, MemoryKeeper, Held>;
 
 pub type Origin = MemoryOrigin<Untold, Patient>;
 
-/// How many turns a read waits for the last of those that follow.
-const TURNS: u32 = 1_000_000;
+/// How many turns a read waits for the last of those that follow: longer than a test may run, so that a busy machine can't
+/// make one of them come too late.
+const TURNS: u64 = 1_000_000_000;
 
 /// What is counted of a crowd.
 #[derive(Drop)]
@@ -115,7 +116,7 @@ fn graze<R: Wait>(
         return;
     };
     let label = Label::Fetched { first, last };
-    let Ok(mut client) = MemoryLink::new(alloc, b"", 200_000, 1000, &[]) else {
+    let Ok(mut client) = MemoryLink::new(alloc, b"", wanted.text.len(), 1000, &[]) else {
         return;
     };
     let followed = follow(

@@ -12,8 +12,8 @@ use std::sync::{Arc, Mutex, Wait};
 use std::test::Fail;
 use std::thread::Threads;
 
-/// How many ask at once.
-const CROWD: u64 = 12;
+/// How many ask at once: one leads, and 32 join it.
+const CROWD: u64 = 33;
 
 const URL: &[u8] = b"http://h/a";
 
@@ -199,22 +199,24 @@ fn a_download_that_goes_on_serves_each_of_a_crowd(rt: HostRuntime) -> Result<(),
 fn a_body_that_breaks_off_is_the_same_for_each_of_a_crowd(rt: HostRuntime) -> Result<(), Fail> {
     let alloc = rt.alloc();
     let text = text_of(alloc, 64)?;
-    for place in 0..=64 {
-        let answer = Answer {
-            attempt: 0,
-            head: "HTTP/1.1 200 OK\r\nContent-Length: 65\r\n\r\n",
-            start: 0,
-            stop: place,
-            fault: true,
-        };
-        let rules = [rule(alloc, text.as_slice(), answer)?];
-        let front = text.as_slice().get(..place).unwrap_or(b"");
-        let wanted = wanted(alloc, front, Some(0))?;
-        let outcome = crowd(&rt, alloc, &rules, 7, &wanted)?;
-        assert!(rt;
-            was_served(&outcome, 1, None),
-            "broken off at {place}: {outcome:?}"
-        );
+    for cut in [1, 7, 4096] {
+        for place in 0..=64 {
+            let answer = Answer {
+                attempt: 0,
+                head: "HTTP/1.1 200 OK\r\nContent-Length: 65\r\n\r\n",
+                start: 0,
+                stop: place,
+                fault: true,
+            };
+            let rules = [rule(alloc, text.as_slice(), answer)?];
+            let front = text.as_slice().get(..place).unwrap_or(b"");
+            let wanted = wanted(alloc, front, Some(0))?;
+            let outcome = crowd(&rt, alloc, &rules, cut, &wanted)?;
+            assert!(rt;
+                was_served(&outcome, 1, None),
+                "broken off at {place} in pieces of {cut}: {outcome:?}"
+            );
+        }
     }
     Ok(())
 }
