@@ -3,15 +3,15 @@
 # of one file of 1 GB that an index names, by a proved program of its own. Reach is told beside the start of the desk that comes
 # before it, in time and in memory; the import beside `sha256sum` of the same file, and beside `dd` of it into a new file with a
 # sync, which an import makes too. The best of three runs each; all files are in the system's memory by then. Where perf is there,
-# it says where an import and a reach spend their time. PROGRAM is one that an earlier run built, so that nothing is built beside
-# the measuring. Usage: bench/reach.sh [FOLDER [PROGRAM]]
+# it says where an import and a reach spend their time. PROGRAM is one that an earlier run built. QUIET is a command that runs what
+# stands behind it, as one that stops other work meanwhile: the two measurings run under it, and what they need is made before.
+# Usage: [QUIET=COMMAND] bench/reach.sh [FOLDER [PROGRAM]]
 set -eu
 root=$(cd "$(dirname "$0")/.." && pwd)
 [ -x /usr/bin/time ] || { echo "reach: there is no /usr/bin/time"; exit 1; }
 scratch=$(mktemp -d "${1:-/tmp}/bench-reach.XXXXXX")
 trap 'rm -rf "$scratch"' EXIT
 . "$root/bench/crate.sh"
-python3 "$root/bench/reach/folder.py" "$scratch/cache"
 program=${2:-}
 if [ -z "$program" ]; then
     bench_crate reach acng_base acng_stanza acng_index acng_site acng_conf acng_class acng_keeper acng_head acng_grow acng_rows \
@@ -20,14 +20,14 @@ if [ -z "$program" ]; then
     program=$PWD/out/bench_reach
 fi
 
-# An index that names a file of 1 GB, and the folder where that file was found.
-mkdir "$scratch/found" "$scratch/index"
-head -c 1000000000 /dev/urandom > "$scratch/found/big"
-hash=$(sha256sum < "$scratch/found/big" | cut -c 1-64)
-printf 'Origin: Example\nSHA256:\n %s 1000000000 pool/big.deb\n' "$hash" > "$scratch/index/b-0000000000000000"
-printf 'acng-head 1\npath mirror.example.org/flat/Release\norigin fetched 0 0\nsize %s\nchecked 1000\nend\n' \
-    "$(stat -c %s "$scratch/index/b-0000000000000000")" > "$scratch/index/h-0000000000000000"
-echo "load of the machine: $(cut -d ' ' -f 1-3 /proc/loadavg)"
+# shares WORD..: the functions that took the most of a run of the program, where perf is there
+shares() {
+    command -v perf > /dev/null || return 0
+    perf record -q -o "$scratch/perf" "$program" "$@" > /dev/null 2>&1 || return 0
+    perf report -q -i "$scratch/perf" --no-children --percent-limit 2 --stdio -F overhead,symbol 2> /dev/null | grep '%' | head -n 12
+}
+
+# ---- reach
 
 # runs KIND: three runs over the large folder, each a line of what the program prints, its whole seconds and its kilobytes.
 runs() {
@@ -36,17 +36,25 @@ runs() {
         echo "$(cat "$scratch/line") $(cat "$scratch/used")"
     done
 }
-runs start > "$scratch/lines"
-runs of >> "$scratch/lines"
-awk '
-    { time = $(NF - 1); memory = $NF }
-    !($1 in best) || time < best[$1] { best[$1] = time }
-    !($1 in most) || memory > most[$1] { most[$1] = memory }
-    $1 == "of" { if (!least || $2 < least) least = $2; told = $3 " held, " $4 " reached, " $5 " problems" }
-    END {
-        printf "reach %.2f s (%s); a start and reach %.2f s, a start alone %.2f s\n", least / 1e6, told, best["of"], best["start"]
-        printf "a start and reach %.1f MB at most, a start alone %.1f MB\n", most["of"] / 1024, most["start"] / 1024
-    }' "$scratch/lines"
+
+measure_reach() {
+    echo "load of the machine: $(cut -d ' ' -f 1-3 /proc/loadavg)"
+    runs start > "$scratch/lines"
+    runs of >> "$scratch/lines"
+    awk '
+        { time = $(NF - 1); memory = $NF }
+        !($1 in best) || time < best[$1] { best[$1] = time }
+        !($1 in most) || memory > most[$1] { most[$1] = memory }
+        $1 == "of" { if (!least || $2 < least) least = $2; told = $3 " held, " $4 " reached, " $5 " problems" }
+        END {
+            printf "reach %.2f s (%s); a start and reach %.2f s, a start alone %.2f s\n", least / 1e6, told, best["of"], best["start"]
+            printf "a start and reach %.1f MB at most, a start alone %.1f MB\n", most["of"] / 1024, most["start"] / 1024
+        }' "$scratch/lines"
+    echo 'where a start and reach spend their time'
+    shares of "$scratch/cache"
+}
+
+# ---- an import
 
 # Each import is into a folder that has the index alone.
 imported() {
@@ -57,6 +65,7 @@ imported() {
     head -n 1 "$scratch/line"
     rm -rf "$scratch/copy"
 }
+
 # timed NAME COMMAND..: its name and the microseconds that it took
 timed() {
     local begun name=$1
@@ -65,26 +74,40 @@ timed() {
     "$@" > /dev/null 2>&1
     echo "$name $(( ($(date +%s%N) - begun) / 1000 ))"
 }
-for _ in 1 2 3; do
-    imported
-    timed hash sha256sum "$scratch/found/big"
-    timed copy dd if="$scratch/found/big" of="$scratch/copy" bs=64k conv=fsync
-    rm "$scratch/copy"
-done | awk '!($1 in best) || $2 < best[$1] { best[$1] = $2 }
-    END {
-        printf "import of 1 GB %.2f s, %.0f MB/s; sha256sum %.2f s, %.0f MB/s; dd with a sync %.2f s: the import has %.2f of the rate of sha256sum\n",
-            best["import"] / 1e6, 1e9 / best["import"], best["hash"] / 1e6, 1e9 / best["hash"], best["copy"] / 1e6,
-            best["hash"] / best["import"]
-    }'
 
-command -v perf > /dev/null || exit 0
-# shares WORD..: the functions that took the most of a run of the program
-shares() {
-    perf record -q -o "$scratch/perf" "$program" "$@" > /dev/null 2>&1 || return 0
-    perf report -q -i "$scratch/perf" --no-children --percent-limit 4 --stdio -F overhead,symbol 2> /dev/null | grep '%' | head -n 8
+measure_import() {
+    echo "load of the machine: $(cut -d ' ' -f 1-3 /proc/loadavg)"
+    for _ in 1 2 3; do
+        imported
+        timed hash sha256sum "$scratch/found/big"
+        timed copy dd if="$scratch/found/big" of="$scratch/copy" bs=64k conv=fsync
+        rm "$scratch/copy"
+    done > "$scratch/lines"
+    awk '!($1 in best) || $2 < best[$1] { best[$1] = $2 }
+        END {
+            printf "import of 1 GB %.2f s, %.0f MB/s; sha256sum %.2f s, %.0f MB/s; ", best["import"] / 1e6, 1e9 / best["import"],
+                best["hash"] / 1e6, 1e9 / best["hash"]
+            printf "dd with a sync %.2f s: the import has %.2f of the rate of sha256sum\n", best["copy"] / 1e6,
+                best["hash"] / best["import"]
+        }' "$scratch/lines"
+    cp -r "$scratch/index" "$scratch/copy"
+    echo 'where an import of 1 GB spends its time'
+    shares import "$scratch/copy" "$scratch/found"
 }
-echo 'where a start and reach spend their time'
-shares of "$scratch/cache"
-cp -r "$scratch/index" "$scratch/copy"
-echo 'where an import of 1 GB spends its time'
-shares import "$scratch/copy" "$scratch/found"
+
+export scratch program
+export -f shares runs measure_reach imported timed measure_import
+python3 "$root/bench/reach/folder.py" "$scratch/cache"
+"$program" start "$scratch/cache" > /dev/null
+${QUIET:-} bash -euc measure_reach
+rm -rf "$scratch/cache"
+
+# An index that names a file of 1 GB, and the folder where that file was found.
+mkdir "$scratch/found" "$scratch/index"
+head -c 1000000000 /dev/urandom > "$scratch/found/big"
+hash=$(sha256sum < "$scratch/found/big" | cut -c 1-64)
+printf 'Origin: Example\nSHA256:\n %s 1000000000 pool/big.deb\n' "$hash" > "$scratch/index/b-0000000000000000"
+printf 'acng-head 1\npath mirror.example.org/flat/Release\norigin fetched 0 0\nsize %s\nchecked 1000\nend\n' \
+    "$(stat -c %s "$scratch/index/b-0000000000000000")" > "$scratch/index/h-0000000000000000"
+sync
+${QUIET:-} bash -euc measure_import
