@@ -4,7 +4,7 @@
 # before it, in time and in memory; the import beside `sha256sum` of the same file, and beside `dd` of it into a new file with a
 # sync, which an import makes too. The best of three runs each; all files are in the system's memory by then. Where perf is there,
 # it says where an import and a reach spend their time. PROGRAM is one that an earlier run built. QUIET is a command that runs what
-# stands behind it, as one that stops other work meanwhile: the two measurings run under it, and what they need is made before.
+# stands behind it, as one that stops other work meanwhile: all is measured under it, and what that needs is made before.
 # Usage: [QUIET=COMMAND] bench/reach.sh [FOLDER [PROGRAM]]
 set -eu
 root=$(cd "$(dirname "$0")/.." && pwd)
@@ -95,14 +95,8 @@ measure_import() {
     shares import "$scratch/copy" "$scratch/found"
 }
 
-export scratch program
-export -f shares runs measure_reach imported timed measure_import
+# A large folder; and an index that names a file of 1 GB, with the folder where that file was found.
 python3 "$root/bench/reach/folder.py" "$scratch/cache"
-"$program" start "$scratch/cache" > /dev/null
-${QUIET:-} bash -euc measure_reach
-rm -rf "$scratch/cache"
-
-# An index that names a file of 1 GB, and the folder where that file was found.
 mkdir "$scratch/found" "$scratch/index"
 head -c 1000000000 /dev/urandom > "$scratch/found/big"
 hash=$(sha256sum < "$scratch/found/big" | cut -c 1-64)
@@ -110,4 +104,8 @@ printf 'Origin: Example\nSHA256:\n %s 1000000000 pool/big.deb\n' "$hash" > "$scr
 printf 'acng-head 1\npath mirror.example.org/flat/Release\norigin fetched 0 0\nsize %s\nchecked 1000\nend\n' \
     "$(stat -c %s "$scratch/index/b-0000000000000000")" > "$scratch/index/h-0000000000000000"
 sync
-${QUIET:-} bash -euc measure_import
+"$program" start "$scratch/cache" > /dev/null
+
+export scratch program
+export -f shares runs measure_reach imported timed measure_import
+${QUIET:-} bash -euc 'measure_reach; measure_import'
