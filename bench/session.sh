@@ -51,7 +51,7 @@ measure() {
     fi
     command -v perf > /dev/null || return 0
     for size in 8192 100; do
-        perf record -q -o "$scratch/perf" "$program" "$size" 1 1000 > /dev/null 2>&1 || return 0
+        perf record -q -o "$scratch/perf" "$program" "$size" 1 200 > /dev/null 2>&1 || return 0
         echo "where the requests for $size bytes spend their time"
         perf report -q -i "$scratch/perf" --no-children --percent-limit 1 --stdio -F overhead,symbol 2> /dev/null |
             grep '%' | head -n 30
