@@ -16,9 +16,11 @@ use std::time::Clock as TimeSource;
 const HEAD: &[u8] = b"HTTP/1.1 200 OK\r\nContent-Length: 8\r\n\r\n";
 
 /// What a client gets of the file of eight bytes, and of the one that is held.
-const REPLY: &[u8] = b"HTTP/1.1 200 OK\r\nContent-Type: application/octet-stream\r\nContent-Length: 8\r\nConnection: keep-alive\r\n\r\nabcdefgh";
+const REPLY: &[u8] = b"HTTP/1.1 200 OK\r\nContent-Type: application/octet-stream\r\nContent-Length: 8\r\n\
+    Connection: keep-alive\r\n\r\nabcdefgh";
 
-const HELD_REPLY: &[u8] = b"HTTP/1.1 200 OK\r\nContent-Type: application/octet-stream\r\nContent-Length: 3\r\nConnection: keep-alive\r\n\r\nxyz";
+const HELD_REPLY: &[u8] = b"HTTP/1.1 200 OK\r\nContent-Type: application/octet-stream\r\nContent-Length: 3\r\n\
+    Connection: keep-alive\r\n\r\nxyz";
 
 // The one that is held came by attempt 0, and the tries of the eight bytes' download are 16 to 31.
 fn held_told(first_try: u64, kept: bool) -> Told {

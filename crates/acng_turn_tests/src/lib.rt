@@ -14,6 +14,8 @@ mod mended;
 #[cfg(test)]
 mod mirror;
 #[cfg(test)]
+mod removed;
+#[cfg(test)]
 mod scene;
 #[cfg(test)]
 mod shop;

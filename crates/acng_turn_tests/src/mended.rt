@@ -17,9 +17,11 @@ use std::time::Clock as TimeSource;
 const HEAD: &[u8] = b"HTTP/1.1 200 OK\r\nContent-Length: 3\r\nETag: \"x\"\r\n\r\n";
 
 /// What a client gets of that file, and of the version that comes later.
-const REPLY: &[u8] = b"HTTP/1.1 200 OK\r\nContent-Type: application/octet-stream\r\nContent-Length: 3\r\nETag: \"x\"\r\nConnection: keep-alive\r\n\r\nabc";
+const REPLY: &[u8] = b"HTTP/1.1 200 OK\r\nContent-Type: application/octet-stream\r\nContent-Length: 3\r\nETag: \"x\"\r\n\
+    Connection: keep-alive\r\n\r\nabc";
 
-const OTHER_REPLY: &[u8] = b"HTTP/1.1 200 OK\r\nContent-Type: application/octet-stream\r\nContent-Length: 3\r\nConnection: keep-alive\r\n\r\nxyz";
+const OTHER_REPLY: &[u8] = b"HTTP/1.1 200 OK\r\nContent-Type: application/octet-stream\r\nContent-Length: 3\r\n\
+    Connection: keep-alive\r\n\r\nxyz";
 
 /// The answers to an ask for the third byte: that byte, or the whole of another version.
 const THIRD: &[u8] = b"HTTP/1.1 206 Partial Content\r\nContent-Range: bytes 2-2/3\r\nContent-Length: 1\r\n\r\n";
