@@ -117,21 +117,31 @@ fn shop(alloc: Global, bytes: &[u8], fault: bool) -> Result<Shop, Unmade> {
     open_shop(alloc, b"", &rules, 1, place)
 }
 
-// Fetches the file that is held, then lets two ask for the eight bytes, of which they are to get so many, and a third one for the
+// Lets one fetch the file that is held. Then two ask for the eight bytes, of which they are to get so many, and a third one for the
 // held file while the origin is held after four. Says whether all went right, by one ask for each file.
+fn both_in<R: Threads + Wait + TimeSource + Abort + Sync>(
+    rt: &R,
+    alloc: Global,
+    shop: &Shop,
+    len: usize,
+) -> Result<bool, Unmade> {
+    let fetched = shop.serve_one(rt, alloc, held_visit(alloc, held_told(0, false))?);
+    let two = [visit(alloc, len)?, visit(alloc, len)?];
+    let third = [held_visit(alloc, held_told(32, true))?];
+    Ok(fetched
+        && shop.serve_beside(rt, alloc, &two, &third)
+        && shop.mirror.asked_all() == 2
+        && shop.mirror.asked_rest() == 0)
+}
+
+// The same in a shop whose origin gives these of the eight bytes.
 fn both<R: Threads + Wait + TimeSource + Abort + Sync>(
     rt: &R,
     alloc: Global,
     bytes: &[u8],
 ) -> Result<bool, Unmade> {
     let shop = shop(alloc, bytes, bytes.len() < 8)?;
-    let before = [held_visit(alloc, held_told(0, false))?];
-    let two = [visit(alloc, bytes.len())?, visit(alloc, bytes.len())?];
-    let third = [held_visit(alloc, held_told(32, true))?];
-    Ok(shop.serve(rt, alloc, &before)
-        && shop.serve_beside(rt, alloc, &two, &third)
-        && shop.mirror.asked_all() == 2
-        && shop.mirror.asked_rest() == 0)
+    both_in(rt, alloc, &shop, bytes.len())
 }
 
 #[test]

@@ -91,30 +91,34 @@ fn whole_by(first: u64, last: u64) -> Told {
     }
 }
 
-// Asked for the third byte, the origin gives it.
-fn mended<R: Threads + Wait + TimeSource + Abort + Sync>(
+// One follows the download, and gets the whole file.
+fn mended_in<R: Threads + Wait + TimeSource + Abort + Sync>(
     rt: &R,
     alloc: Global,
+    shop: &Shop,
 ) -> Result<bool, Unmade> {
-    let rules = [broken(alloc)?, rest(alloc, 1, THIRD, b"c")?];
-    let shop = shop(alloc, &rules)?;
     let one = [visit(alloc, REPLY, REPLY.len() - 1, whole_by(0, 1))?];
     Ok(shop.serve_beside(rt, alloc, &one, &[])
         && shop.mirror.asked_all() == 1
         && shop.mirror.asked_rest() == 1)
 }
 
-// Asked for the third byte, the origin gives another version. The next request, which has the tries from 16 on, gets that.
-fn replaced<R: Threads + Wait + TimeSource + Abort + Sync>(
+// The same in a shop whose origin gives the third byte where it is asked for it.
+fn mended<R: Threads + Wait + TimeSource + Abort + Sync>(
     rt: &R,
     alloc: Global,
 ) -> Result<bool, Unmade> {
-    let rules = [
-        broken(alloc)?,
-        rest(alloc, 1, OTHER, b"xyz")?,
-        rest(alloc, 16, OTHER, b"xyz")?,
-    ];
+    let rules = [broken(alloc)?, rest(alloc, 1, THIRD, b"c")?];
     let shop = shop(alloc, &rules)?;
+    mended_in(rt, alloc, &shop)
+}
+
+// One follows the download until it is cut. The next request has the tries from 16 on, and gets the other version.
+fn replaced_in<R: Threads + Wait + TimeSource + Abort + Sync>(
+    rt: &R,
+    alloc: Global,
+    shop: &Shop,
+) -> Result<bool, Unmade> {
     let cut = REPLY.get(..REPLY.len() - 1).unwrap_or(REPLY);
     let told = Told {
         why: Why::Broken { attempt: 0 },
@@ -126,12 +130,27 @@ fn replaced<R: Threads + Wait + TimeSource + Abort + Sync>(
         stop: SessionStop::Closed,
     };
     let one = [visit(alloc, cut, cut.len(), told)?];
-    let next = [visit(alloc, OTHER_REPLY, 0, whole_by(16, 16))?];
-    Ok(shop.serve_beside(rt, alloc, &one, &[])
-        && shop.mirror.asked_rest() == 1
-        && shop.serve(rt, alloc, &next)
+    if !shop.serve_beside(rt, alloc, &one, &[]) || shop.mirror.asked_rest() != 1 {
+        return Ok(false);
+    }
+    let next = visit(alloc, OTHER_REPLY, 0, whole_by(16, 16))?;
+    Ok(shop.serve_one(rt, alloc, next)
         && shop.mirror.asked_all() == 1
         && shop.mirror.asked_rest() == 2)
+}
+
+// The same in a shop whose origin gives another version where it is asked for the third byte.
+fn replaced<R: Threads + Wait + TimeSource + Abort + Sync>(
+    rt: &R,
+    alloc: Global,
+) -> Result<bool, Unmade> {
+    let rules = [
+        broken(alloc)?,
+        rest(alloc, 1, OTHER, b"xyz")?,
+        rest(alloc, 16, OTHER, b"xyz")?,
+    ];
+    let shop = shop(alloc, &rules)?;
+    replaced_in(rt, alloc, &shop)
 }
 
 #[test]

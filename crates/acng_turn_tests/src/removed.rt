@@ -156,24 +156,33 @@ fn run(alloc: Global, moment: u64, head: &[u8], page: &[u8]) -> Result<Visit, No
     )
 }
 
-// Fetches index and file, and lets a run mark the file. Then a reader of it takes one piece, a run removes the row, and the reader
-// takes the rest. Says whether all went right.
+// Lets index and file be fetched, and a run mark the file. Then a reader of it takes one piece, a run removes the row, and the
+// reader takes the rest. Says whether all went right.
+fn removed_in<R: Threads + Wait + TimeSource + Abort + Sync>(
+    rt: &R,
+    alloc: Global,
+    shop: &Shop,
+    file: &[u8],
+) -> Result<bool, Unmade> {
+    let index = reader(alloc, GET_INDEX, INDEX_HEAD, INDEX, 0, 0)?;
+    let indexed = shop.serve_one(rt, alloc, index);
+    let first = reader(alloc, GET_FILE, FILE_HEAD, file, 16, 16)?;
+    let fetched = shop.serve_one(rt, alloc, first);
+    let marks = run(alloc, 2000, MARKED_HEAD, MARKED)?;
+    let marked = shop.serve_one(rt, alloc, marks);
+    let second = [reader(alloc, GET_FILE, FILE_HEAD, file, 16, 32)?];
+    let removes = [run(alloc, 347_601, REMOVED_HEAD, REMOVED)?];
+    Ok(indexed && fetched && marked && shop.serve_halted(rt, alloc, &second, &removes))
+}
+
+// The same in a shop of its own.
 fn removed<R: Threads + Wait + TimeSource + Abort + Sync>(
     rt: &R,
     alloc: Global,
 ) -> Result<bool, Unmade> {
     let file = file(alloc)?;
-    let file = file.as_slice();
-    let shop = shop(alloc, file)?;
-    let index = [reader(alloc, GET_INDEX, INDEX_HEAD, INDEX, 0, 0)?];
-    let fetched = [reader(alloc, GET_FILE, FILE_HEAD, file, 16, 16)?];
-    let marked = [run(alloc, 2000, MARKED_HEAD, MARKED)?];
-    let read = [reader(alloc, GET_FILE, FILE_HEAD, file, 16, 32)?];
-    let gone = [run(alloc, 347_601, REMOVED_HEAD, REMOVED)?];
-    Ok(shop.serve(rt, alloc, &index)
-        && shop.serve(rt, alloc, &fetched)
-        && shop.serve(rt, alloc, &marked)
-        && shop.serve_halted(rt, alloc, &read, &gone))
+    let shop = shop(alloc, file.as_slice())?;
+    removed_in(rt, alloc, &shop, file.as_slice())
 }
 
 #[test]

@@ -82,6 +82,7 @@ pub fn open_shop(
     cut: usize,
     place: Place,
 ) -> Result<Shop, Unmade> {
+    let conf = conf_of(alloc, conf)?;
     let door = door(alloc)?;
     let stop = Stop {
         door: again(&door)?,
@@ -89,7 +90,6 @@ pub fn open_shop(
         given: place.given as u64,
     };
     let (mirror, right) = start(alloc, rules, cut.max(1), stop)?;
-    let conf = conf_of(alloc, conf)?;
     let desk = desk_of(alloc, &conf, right)?;
     Ok(Shop {
         house: House::new(conf, desk),
@@ -99,19 +99,20 @@ pub fn open_shop(
 }
 
 impl Shop {
-    /// Serves clients, and says whether all went right. No origin is held.
-    pub fn serve<R: Threads + Wait + TimeSource + Abort + Sync>(
+    /// Serves one client, and says whether it went right. No origin is held.
+    pub fn serve_one<R: Threads + Wait + TimeSource + Abort + Sync>(
         &self,
         rt: &R,
         alloc: Global,
-        visits: &[Visit],
+        visit: Visit,
     ) -> bool {
+        let visits = [visit];
         self.play(
             rt,
             alloc,
             Scene {
                 first: &[],
-                then: visits,
+                then: &visits,
                 held: None,
                 halted: None,
             },
