@@ -77,7 +77,7 @@ fn visit(alloc: Global, len: usize) -> Result<Visit, NoMemory> {
         Plan {
             request: b"GET /h/a.deb HTTP/1.1\r\n\r\n",
             moment: 1000,
-            reply: REPLY.get(..head + len).unwrap_or(REPLY),
+            reply: REPLY.get(..head.saturating_add(len)).unwrap_or(REPLY),
             front: head + 4,
             told,
         },

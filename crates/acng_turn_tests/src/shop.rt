@@ -121,12 +121,12 @@ impl Shop {
 
     /// Serves the first clients until each has its front and the origin is held, and the others to the end meanwhile. Says
     /// whether all went right.
-    pub fn serve_beside<R: Threads + Wait + TimeSource + Abort + Sync>(
-        &self,
+    pub fn serve_beside<'a, R: Threads + Wait + TimeSource + Abort + Sync>(
+        &'a self,
         rt: &R,
         alloc: Global,
-        first: &[Visit],
-        then: &[Visit],
+        first: &'a [Visit],
+        then: &'a [Visit],
     ) -> bool {
         self.play(
             rt,
@@ -142,12 +142,12 @@ impl Shop {
 
     /// Serves the first clients until each has its front and takes no more, and the others to the end meanwhile. Says whether
     /// all went right.
-    pub fn serve_halted<R: Threads + Wait + TimeSource + Abort + Sync>(
-        &self,
+    pub fn serve_halted<'a, R: Threads + Wait + TimeSource + Abort + Sync>(
+        &'a self,
         rt: &R,
         alloc: Global,
-        first: &[Visit],
-        then: &[Visit],
+        first: &'a [Visit],
+        then: &'a [Visit],
     ) -> bool {
         let door = Door::shut();
         self.play(
