@@ -16,10 +16,12 @@ use std::time::Clock as TimeSource;
 const HEAD: &[u8] = b"HTTP/1.1 200 OK\r\nContent-Length: 8\r\n\r\n";
 
 /// What a client gets of the file of eight bytes, and of the one that is held.
-const REPLY: &[u8] = b"HTTP/1.1 200 OK\r\nContent-Type: application/octet-stream\r\nContent-Length: 8\r\n\
+const REPLY: &[u8] =
+    b"HTTP/1.1 200 OK\r\nContent-Type: application/octet-stream\r\nContent-Length: 8\r\n\
     Connection: keep-alive\r\n\r\nabcdefgh";
 
-const HELD_REPLY: &[u8] = b"HTTP/1.1 200 OK\r\nContent-Type: application/octet-stream\r\nContent-Length: 3\r\n\
+const HELD_REPLY: &[u8] =
+    b"HTTP/1.1 200 OK\r\nContent-Type: application/octet-stream\r\nContent-Length: 3\r\n\
     Connection: keep-alive\r\n\r\nxyz";
 
 // The one that is held came by attempt 0, and the tries of the eight bytes' download are 16 to 31.
@@ -128,10 +130,12 @@ fn both_in<R: Threads + Wait + TimeSource + Abort + Sync>(
     let fetched = shop.serve_one(rt, alloc, held_visit(alloc, held_told(0, false))?);
     let two = [visit(alloc, len)?, visit(alloc, len)?];
     let third = [held_visit(alloc, held_told(32, true))?];
-    Ok(fetched
-        && shop.serve_beside(rt, alloc, &two, &third)
-        && shop.mirror.asked_all() == 2
-        && shop.mirror.asked_rest() == 0)
+    Ok(
+        fetched
+            && shop.serve_beside(rt, alloc, &two, &third)
+            && shop.mirror.asked_all() == 2
+            && shop.mirror.asked_rest() == 0,
+    )
 }
 
 // The same in a shop whose origin gives these of the eight bytes.

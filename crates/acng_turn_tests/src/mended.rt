@@ -17,14 +17,17 @@ use std::time::Clock as TimeSource;
 const HEAD: &[u8] = b"HTTP/1.1 200 OK\r\nContent-Length: 3\r\nETag: \"x\"\r\n\r\n";
 
 /// What a client gets of that file, and of the version that comes later.
-const REPLY: &[u8] = b"HTTP/1.1 200 OK\r\nContent-Type: application/octet-stream\r\nContent-Length: 3\r\nETag: \"x\"\r\n\
+const REPLY: &[u8] =
+    b"HTTP/1.1 200 OK\r\nContent-Type: application/octet-stream\r\nContent-Length: 3\r\nETag: \"x\"\r\n\
     Connection: keep-alive\r\n\r\nabc";
 
-const OTHER_REPLY: &[u8] = b"HTTP/1.1 200 OK\r\nContent-Type: application/octet-stream\r\nContent-Length: 3\r\n\
+const OTHER_REPLY: &[u8] =
+    b"HTTP/1.1 200 OK\r\nContent-Type: application/octet-stream\r\nContent-Length: 3\r\n\
     Connection: keep-alive\r\n\r\nxyz";
 
 /// The answers to an ask for the third byte: that byte, or the whole of another version.
-const THIRD: &[u8] = b"HTTP/1.1 206 Partial Content\r\nContent-Range: bytes 2-2/3\r\nContent-Length: 1\r\n\r\n";
+const THIRD: &[u8] =
+    b"HTTP/1.1 206 Partial Content\r\nContent-Range: bytes 2-2/3\r\nContent-Length: 1\r\n\r\n";
 
 const OTHER: &[u8] = b"HTTP/1.1 200 OK\r\nContent-Length: 3\r\n\r\n";
 
@@ -98,9 +101,11 @@ fn mended_in<R: Threads + Wait + TimeSource + Abort + Sync>(
     shop: &Shop,
 ) -> Result<bool, Unmade> {
     let one = [visit(alloc, REPLY, REPLY.len() - 1, whole_by(0, 1))?];
-    Ok(shop.serve_beside(rt, alloc, &one, &[])
-        && shop.mirror.asked_all() == 1
-        && shop.mirror.asked_rest() == 1)
+    Ok(
+        shop.serve_beside(rt, alloc, &one, &[])
+            && shop.mirror.asked_all() == 1
+            && shop.mirror.asked_rest() == 1,
+    )
 }
 
 // The same in a shop whose origin gives the third byte where it is asked for it.
@@ -134,9 +139,11 @@ fn replaced_in<R: Threads + Wait + TimeSource + Abort + Sync>(
         return Ok(false);
     }
     let next = visit(alloc, OTHER_REPLY, 0, whole_by(16, 16))?;
-    Ok(shop.serve_one(rt, alloc, next)
-        && shop.mirror.asked_all() == 1
-        && shop.mirror.asked_rest() == 2)
+    Ok(
+        shop.serve_one(rt, alloc, next)
+            && shop.mirror.asked_all() == 1
+            && shop.mirror.asked_rest() == 2,
+    )
 }
 
 // The same in a shop whose origin gives another version where it is asked for the third byte.

@@ -26,23 +26,29 @@ const LEN: usize = 100_000;
 const PIECE: usize = 1000;
 
 /// The pages of the run that finds the file without an index that names it, and of the one four days and a second later.
-const MARKED: &[u8] = b"<!DOCTYPE html><html><head><title>acng report</title></head><body><pre>\ndone removed 0 marked 1\n\
+const MARKED: &[u8] =
+    b"<!DOCTYPE html><html><head><title>acng report</title></head><body><pre>\ndone removed 0 marked 1\n\
     h/debian/b.deb 100000 solid 2000\nh/debian/dists/s/InRelease 150 volatile -\nrows 2 bytes 100150\n\
     </pre></body></html>\n";
 
-const REMOVED: &[u8] = b"<!DOCTYPE html><html><head><title>acng report</title></head><body><pre>\ndone removed 1 marked 0\n\
+const REMOVED: &[u8] =
+    b"<!DOCTYPE html><html><head><title>acng report</title></head><body><pre>\ndone removed 1 marked 0\n\
     h/debian/dists/s/InRelease 150 volatile -\nrows 1 bytes 150\n</pre></body></html>\n";
 
 /// The heads of the replies.
-const INDEX_HEAD: &[u8] = b"HTTP/1.1 200 OK\r\nContent-Type: application/octet-stream\r\nContent-Length: 150\r\n\
+const INDEX_HEAD: &[u8] =
+    b"HTTP/1.1 200 OK\r\nContent-Type: application/octet-stream\r\nContent-Length: 150\r\n\
     Connection: keep-alive\r\n\r\n";
 
-const FILE_HEAD: &[u8] = b"HTTP/1.1 200 OK\r\nContent-Type: application/octet-stream\r\nContent-Length: 100000\r\n\
+const FILE_HEAD: &[u8] =
+    b"HTTP/1.1 200 OK\r\nContent-Type: application/octet-stream\r\nContent-Length: 100000\r\n\
     Connection: keep-alive\r\n\r\n";
 
-const MARKED_HEAD: &[u8] = b"HTTP/1.1 200 OK\r\nContent-Type: text/html\r\nContent-Length: 212\r\nConnection: close\r\n\r\n";
+const MARKED_HEAD: &[u8] =
+    b"HTTP/1.1 200 OK\r\nContent-Type: text/html\r\nContent-Length: 212\r\nConnection: close\r\n\r\n";
 
-const REMOVED_HEAD: &[u8] = b"HTTP/1.1 200 OK\r\nContent-Type: text/html\r\nContent-Length: 176\r\nConnection: close\r\n\r\n";
+const REMOVED_HEAD: &[u8] =
+    b"HTTP/1.1 200 OK\r\nContent-Type: text/html\r\nContent-Length: 176\r\nConnection: close\r\n\r\n";
 
 /// What the clients ask for.
 const GET_INDEX: &[u8] = b"GET /h/debian/dists/s/InRelease HTTP/1.1\r\n\r\n";

@@ -121,7 +121,10 @@ where
                 assert!(rt; started.is_ok());
             }
             await_returns(rt, then);
-            assert!(rt; have_fronts(first), "the clients got more than the door let through");
+            assert!(rt;
+                have_fronts(first),
+                "the clients got more than the door let through"
+            );
             open_up(held);
             open_up(halted);
             await_returns(rt, first);

@@ -134,7 +134,15 @@ where
     let Ok(mut client) = Client::new(alloc, visit.request.as_slice(), room, &visit.got, halt) else {
         return visit.end(false);
     };
-    let told = serve_link::<R, S, K, P, O>(rt, alloc, house, origin, pool, visit.moment, &mut client);
+    let told = serve_link::<R, S, K, P, O>(
+        rt,
+        alloc,
+        house,
+        origin,
+        pool,
+        visit.moment,
+        &mut client,
+    );
     visit.end(client.written() == visit.reply.as_slice() && told == Some(visit.told));
 }
 
