@@ -18,7 +18,7 @@ use std::time::Clock as TimeSource;
 
 type ShopDesk = Desk<Untold, MemoryKeeper, Joined<Untold, MemoryBody, AttemptSlip>>;
 
-/// A house, its origins, and the door at which these are held.
+/// A house, its origins, and a door at which these are held, or clients wait.
 #[derive(Drop)]
 pub struct Shop {
     house: House<Untold, MemoryKeeper, AttemptSlip>,
@@ -149,7 +149,6 @@ impl Shop {
         first: &'a [Visit],
         then: &'a [Visit],
     ) -> bool {
-        let door = Door::shut();
         self.play(
             rt,
             alloc,
@@ -157,9 +156,9 @@ impl Shop {
                 first,
                 then,
                 held: None,
-                halted: Some(&door),
+                halted: Some(&*self.door),
             },
-        ) && !door.was_forced()
+        ) && !self.door.was_forced()
     }
 
     fn play<R: Threads + Wait + TimeSource + Abort + Sync>(
