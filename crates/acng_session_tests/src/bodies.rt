@@ -69,7 +69,10 @@ pub fn chunked(rest: &[u8], sought: Sought) -> Result<Found, Wrong> {
         if !sought.has(data, sent) {
             return Err(Wrong::Body);
         }
-        taken = taken.saturating_add(line).saturating_add(len).saturating_add(2);
+        taken = taken
+            .saturating_add(line)
+            .saturating_add(len)
+            .saturating_add(2);
         sent = sent.saturating_add(len as u64);
     }
     Err(Wrong::Chunk)

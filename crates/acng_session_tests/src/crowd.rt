@@ -214,13 +214,7 @@ pub fn link_to(alloc: Global, input: &str, number: u64) -> Result<MemoryLink, Un
         2 => 4_096,
         _ => 1_000,
     };
-    Ok(MemoryLink::new(
-        alloc,
-        input.as_bytes(),
-        ROOM,
-        cut,
-        &[],
-    )?)
+    Ok(MemoryLink::new(alloc, input.as_bytes(), ROOM, cut, &[])?)
 }
 
 /// One connection.

@@ -23,9 +23,7 @@ pub fn file_head(
     };
     let marks = swapped(alloc, marks.as_str())?;
     let (marks, connection) = (marks.as_str(), connection(close));
-    Ok(format!(in alloc;
-        "HTTP/1.1 {status}\r\n{lines}{marks}Connection: {connection}\r\n\r\n"
-    )?)
+    Ok(format!(in alloc; "HTTP/1.1 {status}\r\n{lines}{marks}Connection: {connection}\r\n\r\n")?)
 }
 
 // The mirror tells its tag first, and a reply its date.

@@ -233,15 +233,7 @@ fn check_no_part<Q>(
         _ => return Err(Wrong::Cause),
     }
     let line = format_total(alloc, total)?;
-    let taken = check_text(
-        alloc,
-        case,
-        416,
-        "416 NoPart\n",
-        line.as_str(),
-        note,
-        rest,
-    )?;
+    let taken = check_text(alloc, case, 416, "416 NoPart\n", line.as_str(), note, rest)?;
     Ok((taken, Served::Bare))
 }
 

@@ -22,6 +22,8 @@ mod pages;
 #[cfg(test)]
 mod places;
 #[cfg(test)]
+mod seen;
+#[cfg(test)]
 mod tally;
 #[cfg(test)]
 mod tests;

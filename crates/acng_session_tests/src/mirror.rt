@@ -40,7 +40,7 @@ pub type Mirror = MemoryOrigin<Untold, NoGate>;
 const CUT: usize = 1_500;
 
 /// A mirror of all places, and the right to its attempts.
-pub fn mirror(alloc: Global) -> Result<(Mirror, Right<Untold>), Unmade> {
+pub fn start(alloc: Global) -> Result<(Mirror, Right<Untold>), Unmade> {
     let rules = rules(alloc)?;
     Ok(started(alloc, rules.as_slice())?)
 }
@@ -78,13 +78,7 @@ fn push(rules: &mut Vec<Rule>, rule: Rule) -> Result<(), Unmade> {
 }
 
 // What asks from a place get in all attempts.
-fn rule(
-    alloc: Global,
-    path: &str,
-    from: u64,
-    bytes: Vec<u8>,
-    fault: bool,
-) -> Result<Rule, Unmade> {
+fn rule(alloc: Global, path: &str, from: u64, bytes: Vec<u8>, fault: bool) -> Result<Rule, Unmade> {
     let url = format!(in alloc; "http://{path}")?;
     Ok(Rule {
         url: Text::copy(alloc, url.as_str().as_bytes())?,

@@ -68,7 +68,7 @@ fn row_of(number: u64) -> (&'static str, Kind, u64) {
     match number {
         0 => ("h/pool/a/a_1_all.deb", Kind::Whole, 3),
         1 => ("h/pool/a/b_1_all.deb", Kind::Whole, 700),
-        2 => ("h/pool/a/c_1_all.deb", Kind::Whole, 70_000),
+        2 => ("h/pool/a/c_1_all.deb", Kind::Whole, 40_000),
         3 => ("h/pool/a/d_1_all.deb", Kind::Whole, 0),
         4 => ("h/pool/a/e_1_all.deb", Kind::Whole, 5_000),
         5 => ("h/pool/b/f_1_all.deb", Kind::Chunked, 2_100),

@@ -5,6 +5,7 @@ use std::alloc::Global;
 
 /// How many clients there are, and how many requests each makes.
 pub const CLIENTS: u64 = 8;
+
 pub const REQUESTS: u64 = 200;
 
 /// How many pages are asked for by all clients, and how many of them behind a run of expiration.
@@ -33,8 +34,8 @@ pub enum Wish {
     Run,
 }
 
-// A number that is as good as drawn by chance.
-fn drawn(seed: u64, client: u64, request: u64) -> u64 {
+/// A number that is as good as drawn by chance.
+pub fn drawn(seed: u64, client: u64, request: u64) -> u64 {
     let mixed = seed
         .wrapping_mul(0x9e37_79b9_7f4a_7c15)
         .wrapping_add(client.wrapping_mul(0xbf58_476d_1ce4_e5b9))
@@ -57,7 +58,10 @@ pub fn wish_of(seed: u64, client: u64, request: u64) -> Wish {
     let len = place_of(number).len;
     Wish::File {
         number,
-        form: form_of((drawn >> 20) % 16, (drawn >> 40) % len.saturating_add(9).max(1)),
+        form: form_of(
+            (drawn >> 20) % 16,
+            (drawn >> 40) % len.saturating_add(9).max(1),
+        ),
     }
 }
 
