@@ -70,7 +70,7 @@ ln -s nowhere "$found/dangling"
 : > "$found/"$'p\xff.deb' 2> /dev/null
 cp "$work/found/"* "$found"
 prints_file 'files without an index' 0 "$work/unknown" "${with[@]}"
-for path in dists/s/InRelease dists/s/main/binary-all/Packages pool/p00_1_all.deb pool/p01_1_all.deb pool/p02_1_all.deb; do fetch "tree/$path"; done
+for path in dists/s/InRelease dists/s/main/binary-all/Packages pool/p0{0,1,2}_1_all.deb; do fetch "tree/$path"; done
 prints_file 'a configuration that is refused' 3 "$work/bad" --conf "$work/refused.conf" --cache "$cache"
 prints_file '100 files and an index' 0 "$work/first" "${with[@]}"
 prints_file 'the same again' 0 "$work/second" "${with[@]}"

@@ -90,6 +90,6 @@ start_server bash -c "trap '' XFSZ; ulimit -f 100; exec \"\$@\"" bash
 clients 'a full disk' full
 said 'the server goes on' "$(kill -0 "$server" 2> /dev/null && echo 0 || echo 1)" 'it ended'
 
-wait "$silent"
-said 'a client behind 200 that say nothing' "$([ $? = 0 ] && [ ! -s "$work/silent" ] && echo 0 || echo 1)" "$(head -n 3 "$work/silent" | tr '\n' ';')"
+wait "$silent" && [ ! -s "$work/silent" ]
+said 'a client behind 200 that say nothing' $? "$(head -n 3 "$work/silent" | tr '\n' ';')"
 exit $failed
