@@ -1,7 +1,7 @@
 #!/usr/bin/env bash
 # Runs the built program's `expire` over a cache folder: what `once` has fetched with an index and without one, marks of long ago,
-# a list that isn't the one that its index names, runs that stop in the middle, and each status. The wanted lines and tables are
-# written from the rules.
+# a list that isn't the one that its index names, runs that stop in the middle, 200 files in three runs, and each status. The wanted
+# lines and tables are written from the rules.
 set -u
 cd "$(dirname "$0")/.." || exit 1
 check=expire
@@ -121,6 +121,45 @@ holds 'what was unreached for too long went' "$index" "$packages" "$a -"
 bad=0
 { [ ! -e "$gone" ] && [ "$(cat "$stays")" = abc ]; } || bad=1
 said 'its file too, and no other' "$bad" "$(ls "$cache")"
+
+# 200 files, of which the index names every other one, over three runs. In place of the clock the marks move: 50 of the marked ones
+# become older than the four days that they are kept, and 50 almost as old.
+many=$work/many
+python3 - "$many" << 'PYTHON'
+import hashlib, os, sys
+folder, files = sys.argv[1], {}
+for k in range(200): files["h/debian/pool/f%03d_1_all.deb" % k] = b"file %d\n" % k
+stanzas = ["Filename: pool/f%03d_1_all.deb\nSize: %d\nSHA256: %s\n" % (k, len(text), hashlib.sha256(text).hexdigest())
+           for k, text in enumerate(files.values()) if k % 2 == 0]
+packages = "\n".join(stanzas).encode()
+listed = "SHA256:\n %s %d main/binary-all/Packages\n" % (hashlib.sha256(packages).hexdigest(), len(packages))
+files["h/debian/dists/s/main/binary-all/Packages"] = packages
+files["h/debian/dists/s/Release"] = listed.encode()
+os.mkdir(folder)
+for number, (path, text) in enumerate(files.items(), 1):
+    open("%s/b-%016x" % (folder, number), "wb").write(text)
+    open("%s/h-%016x" % (folder, number), "w").write(
+        "acng-head 1\npath %s\norigin fetched 0 0\nsize %d\nchecked 5\nend\n" % (path, len(text)))
+PYTHON
+with_many=(--conf "$work/acng.conf" --cache "$many")
+# marks_are NAME WANTED: how many files of the table have each mark, with `now` for one of this check
+marks_are() {
+    local seen
+    seen=$(timeout 50 "$program" report "${with_many[@]}" < /dev/null | sed '$d' |
+        awk -v from="$began" -v to="$(date +%s)" '{ print ($4 != "-" && $4 >= from && $4 <= to) ? "now" : $4 }' | sort | uniq -c | xargs)
+    said "$1" "$([ "$seen" = "$2" ] && echo 0 || echo 1)" "$seen, wanted $2"
+}
+prints 'a first run over 200 files' 0 'done removed 0 marked 100\n' "${with_many[@]}"
+marks_are 'marks what the list lacks' '102 - 100 now'
+old=$((began - 4 * 86400 - 60)) younger=$((began - 4 * 86400 + 3600))
+for number in $(seq 2 2 200); do
+    sed -i "s/^mark .*/mark $([ "$number" -le 100 ] && echo $old || echo $younger)/" "$many/h-$(printf %016x "$number")"
+done
+prints 'a second one, four days on' 0 'done removed 50 marked 50\n' "${with_many[@]}"
+marks_are 'removes what was unreached for longer, and keeps the other marks' "102 - 50 $younger"
+prints 'a third one' 0 'done removed 0 marked 50\n' "${with_many[@]}"
+[ "$(ls "$many"/b-* | wc -l)" = 152 ]
+said 'the bodies of those that went are gone' $? "$(ls "$many"/b-* | wc -l)"
 
 prints 'a configuration that is refused' 3 'line 1: BadNumber\n' --conf "$work/refused.conf" --cache "$cache"
 prints "a configuration that isn't there" 4 '' --conf "$work/nowhere.conf" --cache "$cache"
