@@ -11,7 +11,7 @@ ghost use Rattle.acng_grow.specs.Turns.{FoundStands, IsShort};
 use crate::asked::{Asked, Look};
 use crate::growing::Growing;
 use crate::owned::{room_for, take_piece};
-use crate::sending::PIECE;
+use crate::sending::{FRAME, PIECE};
 use crate::taking::Taken;
 use crate::why::Shown;
 use acng_head::Label;
@@ -142,7 +142,7 @@ fn room_before(place: u64, to: Option<u64>) -> usize
     ensures within { IfSome to (λ t. place + result ≤ t) }
 {
     match to {
-        Some(to) => room_for(to - place),
+        Some(to) => room_for(to - place, FRAME),
         None => PIECE,
     }
 }

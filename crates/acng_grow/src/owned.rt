@@ -8,7 +8,9 @@ ghost use Rattle.acng_grow.specs.Follows.{end_at as end_of, is_there as is_there
 
 use crate::facts::Stage;
 use crate::growing::Growing;
-use crate::sending::{FRAME, FRONT, PIECE, Sending, send_last, send_piece};
+use crate::sending::{
+    BACK, FRAME, FRONT, SMALL_FRAME, SMALL_PIECE, Sending, send_last, send_piece,
+};
 use crate::taking::Taken;
 use crate::why::Shown;
 use acng_base::Link;
@@ -38,7 +40,7 @@ pub struct Followed<Q> {
 }
 
 /// Sends the bytes of a body that grows no further, from a place up to and without another one, or to the end. It holds
-/// one frame on its own stack.
+/// one frame on its own stack: a small one where few bytes are asked, since a frame is cleared before it is used.
 pub fn follow_owned<S: Site, F: BodyFile, P: OriginSlip, L: Link>(
     body: &mut Growing<S, F, P>,
     from: u64,
@@ -59,14 +61,44 @@ pub fn follow_owned<S: Site, F: BodyFile, P: OriginSlip, L: Link>(
     ensures rests { Rests body.old body.new }
     ensures others { Keeps (L.left client.old) (L.left client.new) }
 {
+    if end_at(body.len(), to).saturating_sub(from) <= SMALL_PIECE as u64 {
+        let mut frame = [0u8; SMALL_FRAME];
+        return follow_by(body, from, to, sending, client, &mut frame);
+    }
+    let mut frame = [0u8; FRAME];
+    follow_by(body, from, to, sending, client, &mut frame)
+}
+
+// The same, piece by piece through this frame.
+fn follow_by<S: Site, F: BodyFile, P: OriginSlip, L: Link>(
+    body: &mut Growing<S, F, P>,
+    from: u64,
+    to: Option<u64>,
+    sending: Sending,
+    client: &mut L,
+    frame: &mut [u8],
+) -> Followed<F::Slip>
+    requires room { 20 < length frame.old }
+    requires opened { body.old.seen.stage ≢ stage.Opening }
+    requires grown { body.old.seen.stage ≢ stage.Running }
+    requires within { IfSome to (λ t. (body.old.seen.stage ≡ stage.Whole) ⊎ (body.old.seen.stage ≡ stage.Same)
+        → t ≤ body.old.seen.size) }
+    ensures sends { FollowsAs (F.tells ≡ true) sending body.old from to (L.written client.old) (L.written client.new) result }
+    ensures label { result.label ≡ body.old.seen.label }
+
+    // What a fault comes with, and what stays.
+    ensures slip { OnFileSlip result.stop (FileFailed body.old.file body.new.file) }
+    ensures fault { FaultRose result.stop (L.faults client.old) (L.faults client.new) }
+    ensures rests { Rests body.old body.new }
+    ensures others { Keeps (L.left client.old) (L.left client.new) }
+{
     let label = body.label();
     let most = end_at(body.len(), to).saturating_sub(from);
     let mut sent = 0u64;
-    let mut frame = [0u8; FRAME];
     while sent < most {
-        match take_piece(body, from + sent, &mut frame, room_for(most - sent)) {
+        match take_piece(body, from + sent, frame, room_for(most - sent, frame.len())) {
             Taken::Bytes(count) => {
-                let (taken, outcome) = send_piece(sending, client, &mut frame, count);
+                let (taken, outcome) = send_piece(sending, client, frame, count);
                 sent += taken as u64;
                 if let Err(_) = outcome {
                     return ended(sent, label, FollowStop::ClientFault);
@@ -94,14 +126,15 @@ pub(crate) fn ended<Q>(sent: u64, label: Option<Label>, stop: FollowStop<Q>) -> 
     Followed { sent, label, stop }
 }
 
-// How many of so many bytes fit in a frame.
-pub(crate) fn room_for(left: u64) -> usize
-    requires { 0 < left }
+// How many of so many bytes fit in a frame of that length.
+pub(crate) fn room_for(left: u64, frame: usize) -> usize
+    requires some { 0 < left }
+    requires room { 20 < frame }
     ensures some { 0 < result }
-    ensures fits { result ≤ 65536 }
+    ensures fits { 20 + result ≤ frame }
     ensures few { result ≤ left }
 {
-    left.min(PIECE as u64) as usize
+    left.min((frame - FRONT - BACK) as u64) as usize
 }
 
 // Takes a piece of so many bytes at most into its place in a frame.

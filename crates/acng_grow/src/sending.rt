@@ -22,11 +22,15 @@ pub enum Sending {
 /// Where a piece begins in a frame: a size line has at most 16 digits, CR and LF.
 pub const FRONT: usize = 18;
 /// The CR and LF behind a chunk.
-const BACK: usize = 2;
+pub const BACK: usize = 2;
 /// The most bytes of a piece.
 pub const PIECE: usize = 65_536;
 /// The bytes of a frame.
 pub const FRAME: usize = FRONT + PIECE + BACK;
+/// The most bytes of a small piece. So few go out by a small frame, since it takes longer to clear a large one than to send them.
+pub const SMALL_PIECE: usize = 16_384;
+/// The bytes of a small frame.
+pub const SMALL_FRAME: usize = FRONT + SMALL_PIECE + BACK;
 
 /// Sends the piece of so many bytes that stands in a frame. Says how many of its bytes the link took.
 pub fn send_piece<L: Link>(

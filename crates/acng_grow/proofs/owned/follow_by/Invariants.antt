@@ -4,13 +4,13 @@ use Rattle.acng_grow.specs.Grown.{text_of}
 use Rattle.acng_grow.specs.Takes.{Rests}
 use Rattle.acng_grow.specs.Follows.{part_of}
 use Rattle.acng_grow.specs.Sends.{HasGone}
-use Rattle.acng_grow.proofs.owned.follow_owned.Given as goal
+use Rattle.acng_grow.proofs.owned.follow_by.Given as goal
 
 abbrev pub invariant-loop-sent : goal.invariant-loop-sent
 invariant-loop-sent g l =
     record {
       rests : Rests l.fn.body l.body;
-      room : length l.frame ≡ 65556;
+      room : length l.frame ≡ length l.fn.frame;
       few : l.sent ≤ l.most;
       gone : HasGone l.sending (g.F.BodyFile.tells ≡ true) (part_of (text_of l.fn.body) l.from l.to) l.sent
           (g.L.Link.written l.fn.client) (g.L.Link.written l.client);

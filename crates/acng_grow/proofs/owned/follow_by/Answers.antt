@@ -4,10 +4,10 @@ use Rattle.std.proofs.Common.{length-drop}
 use Rattle.std.specs.Io.KnownBytes.{Appends}
 use Rattle.acng_grow.specs.Grown.{text_of}
 use Rattle.acng_grow.specs.Follows.{end_at, is_there, part_of, FollowsAs}
-use Rattle.acng_grow.specs.Sends.{Breaks, HasGone, piece_text}
+use Rattle.acng_grow.specs.Sends.{Breaks, HasGone, last_text, piece_text}
 use Rattle.acng_grow.proofs.Pieces.{gone_more}
-use Rattle.acng_grow.proofs.Following.{rests_trans, rests_text, part_most, piece_stands, filled, piece_broke, slip_sent, last_broke}
-use Rattle.acng_grow.proofs.owned.follow_owned.Goals as goal
+use Rattle.acng_grow.proofs.Following.{rests_trans, rests_text, part_most, piece_stands, filled, piece_broke, slip_sent, all_sent, last_broke}
+use Rattle.acng_grow.proofs.owned.follow_by.Goals as goal
 
 pub returns-in-Err-clause-sends : goal.returns-in-Err-clause-sends
 returns-in-Err-clause-sends g c =
@@ -140,3 +140,35 @@ returns-in-Err-send_last-clause-sends g c =
     ∙ sym c.if-not-is_there.ensures in
     subst (λ r. FollowsAs (told ≡ true) c.args.sending body c.args.from c.args.to w0 w2 r) (sym c.ended-in-Err-send_last.ensures)
     (record { part = f.whole; count = f.count ∙ top; is = f.is; goes = inr (there, after) })
+
+pub returns-clause-sends : goal.returns-clause-sends
+returns-clause-sends g c =
+    let told = g.F.BodyFile.tells in
+    let body = c.args.body.now in
+    let text = text_of body in
+    let part = part_of text c.args.from c.args.to in
+    let sent = c.loop-sent.sent in
+    let most = c.saturating_sub-most.result in
+    let bound = ap (λ k. end_at k c.args.to) c.len.ensures.size in
+    let top : most ≡ end_at body.seen.size c.args.to - c.args.from =
+    c.saturating_sub-most.ensures ∙ ap (λ k. k - c.args.from) (c.end_at.ensures ∙ bound) in
+    let size = λ (t : told ≡ true). sym c.len.ensures.size ∙ c.len.ensures.told t in
+    let w0 = g.L.Link.written c.args.client.now in
+    let w1 = g.L.Link.written c.loop-sent.client in
+    let w2 = g.L.Link.written c.send_last.new.client in
+    let gone = c.loop-sent.invariant.gone in
+    let few = c.loop-sent.invariant.few in
+    let long = λ (t : told ≡ true). part_most text c.args.from body.seen.size most c.args.to top (size t) in
+    let f = filled told c.args.sending part sent most w0 w1 gone long few in
+    let all : sent ≡ most = omega (arith, few, c.loop-sent-test.false) in
+    let went =
+    all_sent told c.args.sending part (last_text c.args.sending) sent most w0 w1 w2 gone f all c.in_default-send_last.ensures.bytes in
+    let rests = c.loop-sent.invariant.rests.seen in
+    let at_stage = c.stage.ensures ∙ ap (λ s. s.stage) rests in
+    let at_size = c.len-2.ensures.size ∙ ap (λ s. s.size) rests in
+    let there : is_there body.seen.stage body.seen.size c.args.from c.args.to ≡ true =
+    ap (λ s. is_there s body.seen.size c.args.from c.args.to) (sym at_stage)
+    ∙ ap (λ n. is_there c.stage.result n c.args.from c.args.to) (sym at_size)
+    ∙ sym c.if-not-is_there.ensures in
+    subst (λ r. FollowsAs (told ≡ true) c.args.sending body c.args.from c.args.to w0 w2 r) (sym c.ended-2.ensures)
+    (record { part = f.whole; count = f.count ∙ top; is = f.is; goes = (there, went.0, went.1) })
