@@ -18,6 +18,7 @@ test:
 	bash tests/check_conf.sh
 	bash tests/desk_table.sh
 	bash tests/report.sh
+	bash tests/page.sh
 	bash tests/expire.sh
 	bash tests/import.sh
 	bash tests/gen.sh
