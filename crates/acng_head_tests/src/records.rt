@@ -20,6 +20,127 @@ const ABC: [u8; 32] = [
     0xb0, 0x03, 0x61, 0xa3, 0x96, 0x17, 0x7a, 0x9c, 0xb4, 0x10, 0xff, 0x61, 0xf2, 0x00, 0x15, 0xad,
 ];
 
+// Each text with what is special in it: those that are one record, and those that are none.
+const LAWFUL: &[(&str, &[u8])] = &[
+    (
+        "the shortest",
+        b"acng-head 1\npath a\norigin fetched 0 0\nsize 3\nchecked 9\nend\n",
+    ),
+    (
+        "the last attempt, and the greatest size",
+        b"acng-head 1\npath a\norigin fetched 9223372036854775807 9223372036854775807\n\
+            size 2199023255552\nchecked 9\nend\n",
+    ),
+    (
+        "zeros",
+        b"acng-head 1\npath a\norigin fetched 0 0\nsize 0\nchecked 0\nmark 0\nend\n",
+    ),
+];
+
+const UNLAWFUL: &[(&str, &[u8])] = &[
+    (
+        "a leading zero",
+        b"acng-head 1\npath a\norigin fetched 0 0\nsize 03\nchecked 9\nend\n",
+    ),
+    (
+        "a sign",
+        b"acng-head 1\npath a\norigin fetched 0 0\nsize +3\nchecked 9\nend\n",
+    ),
+    (
+        "no digit",
+        b"acng-head 1\npath a\norigin fetched 0 0\nsize \nchecked 9\nend\n",
+    ),
+    (
+        "more than 64 bits",
+        b"acng-head 1\npath a\norigin fetched 0 0\nsize 3\nchecked 18446744073709551616\nend\n",
+    ),
+    (
+        "a line missing",
+        b"acng-head 1\npath a\norigin fetched 0 0\nchecked 9\nend\n",
+    ),
+    (
+        "a line twice",
+        b"acng-head 1\npath a\norigin fetched 0 0\nsize 3\nsize 3\nchecked 9\nend\n",
+    ),
+    (
+        "two lines in another order",
+        b"acng-head 1\npath a\norigin fetched 0 0\nsize 3\nmodified 5\ntag \"x\"\nchecked 9\nend\n",
+    ),
+    (
+        "CR LF",
+        b"acng-head 1\r\npath a\r\norigin fetched 0 0\r\nsize 3\r\nchecked 9\r\nend\r\n",
+    ),
+    (
+        "no last LF",
+        b"acng-head 1\npath a\norigin fetched 0 0\nsize 3\nchecked 9\nend",
+    ),
+    (
+        "bytes after the end",
+        b"acng-head 1\npath a\norigin fetched 0 0\nsize 3\nchecked 9\nend\n\n",
+    ),
+    (
+        "no path of the cache",
+        b"acng-head 1\npath a/../b\norigin fetched 0 0\nsize 3\nchecked 9\nend\n",
+    ),
+    (
+        "the first attempt above the last",
+        b"acng-head 1\npath a\norigin fetched 2 1\nsize 3\nchecked 9\nend\n",
+    ),
+    (
+        "an attempt of 2^63",
+        b"acng-head 1\npath a\norigin fetched 0 9223372036854775808\nsize 3\nchecked 9\nend\n",
+    ),
+    (
+        "one attempt",
+        b"acng-head 1\npath a\norigin fetched 0\nsize 3\nchecked 9\nend\n",
+    ),
+    (
+        "another origin",
+        b"acng-head 1\npath a\norigin copied 0 0\nsize 3\nchecked 9\nend\n",
+    ),
+    (
+        "a hash in upper case",
+        b"acng-head 1\npath a\n\
+            origin imported BA7816BF8F01CFEA414140DE5DAE2223B00361A396177A9CB410FF61F20015AD\nsize 3\nchecked 9\nend\n",
+    ),
+    (
+        "a hash of 63 digits",
+        b"acng-head 1\npath a\n\
+            origin imported ba7816bf8f01cfea414140de5dae2223b00361a396177a9cb410ff61f20015a\nsize 3\nchecked 9\nend\n",
+    ),
+    (
+        "a hash of 65 digits",
+        b"acng-head 1\npath a\n\
+            origin imported ba7816bf8f01cfea414140de5dae2223b00361a396177a9cb410ff61f20015ad0\nsize 3\nchecked 9\nend\n",
+    ),
+    (
+        "an import with a size of its own",
+        b"acng-head 1\npath a\n\
+            origin imported ba7816bf8f01cfea414140de5dae2223b00361a396177a9cb410ff61f20015ad 3\nsize 3\nchecked 9\nend\n",
+    ),
+    (
+        "a size above 2^41",
+        b"acng-head 1\npath a\norigin fetched 0 0\nsize 2199023255553\nchecked 9\nend\n",
+    ),
+    (
+        "a weak tag",
+        b"acng-head 1\npath a\norigin fetched 0 0\nsize 3\ntag W/\"x\"\nchecked 9\nend\n",
+    ),
+    (
+        "modified in the year 10000",
+        b"acng-head 1\npath a\norigin fetched 0 0\nsize 3\nmodified 253402300800\nchecked 9\nend\n",
+    ),
+    (
+        "modified with no moment",
+        b"acng-head 1\npath a\norigin fetched 0 0\nsize 3\nmodified \nchecked 9\nend\n",
+    ),
+    (
+        "version 2",
+        b"acng-head 2\npath a\norigin fetched 0 0\nsize 3\nchecked 9\nend\n",
+    ),
+    ("nothing", b""),
+];
+
 fn fetched(alloc: Global, path: &[u8], last: u64) -> Result<Head, Fail>
     requires { last < 2 ^ 63 }
     ensures { IfOk result IsBounded }
@@ -82,158 +203,18 @@ fn a_record_is_written_and_read_back(rt: HostRuntime) -> Result<(), Fail> {
     Ok(())
 }
 
+// Whether the text is read as a record.
+fn is_read(alloc: Global, text: &[u8]) -> Result<bool, Fail> {
+    Ok(read_head(alloc, text).map_err(|_| "no memory")?.is_some())
+}
+
 #[test]
 fn a_text_is_one_record_or_none(rt: HostRuntime) -> Result<(), Fail> {
-    for (lawful, why, text) in [
-        (
-            true,
-            "the shortest",
-            b"acng-head 1\npath a\norigin fetched 0 0\nsize 3\nchecked 9\nend\n".as_slice(),
-        ),
-        (
-            true,
-            "the last attempt, and the greatest size",
-            b"acng-head 1\npath a\norigin fetched 9223372036854775807 9223372036854775807\n\
-            size 2199023255552\nchecked 9\nend\n"
-                .as_slice(),
-        ),
-        (
-            true,
-            "zeros",
-            b"acng-head 1\npath a\norigin fetched 0 0\nsize 0\nchecked 0\nmark 0\nend\n".as_slice(),
-        ),
-        (
-            false,
-            "a leading zero",
-            b"acng-head 1\npath a\norigin fetched 0 0\nsize 03\nchecked 9\nend\n".as_slice(),
-        ),
-        (
-            false,
-            "a sign",
-            b"acng-head 1\npath a\norigin fetched 0 0\nsize +3\nchecked 9\nend\n".as_slice(),
-        ),
-        (
-            false,
-            "no digit",
-            b"acng-head 1\npath a\norigin fetched 0 0\nsize \nchecked 9\nend\n".as_slice(),
-        ),
-        (
-            false,
-            "more than 64 bits",
-            b"acng-head 1\npath a\norigin fetched 0 0\nsize 3\nchecked 18446744073709551616\nend\n".as_slice(),
-        ),
-        (
-            false,
-            "a line missing",
-            b"acng-head 1\npath a\norigin fetched 0 0\nchecked 9\nend\n".as_slice(),
-        ),
-        (
-            false,
-            "a line twice",
-            b"acng-head 1\npath a\norigin fetched 0 0\nsize 3\nsize 3\nchecked 9\nend\n".as_slice(),
-        ),
-        (
-            false,
-            "two lines in another order",
-            b"acng-head 1\npath a\norigin fetched 0 0\nsize 3\nmodified 5\ntag \"x\"\nchecked 9\nend\n".as_slice(),
-        ),
-        (
-            false,
-            "CR LF",
-            b"acng-head 1\r\npath a\r\norigin fetched 0 0\r\nsize 3\r\nchecked 9\r\nend\r\n".as_slice(),
-        ),
-        (
-            false,
-            "no last LF",
-            b"acng-head 1\npath a\norigin fetched 0 0\nsize 3\nchecked 9\nend".as_slice(),
-        ),
-        (
-            false,
-            "bytes after the end",
-            b"acng-head 1\npath a\norigin fetched 0 0\nsize 3\nchecked 9\nend\n\n".as_slice(),
-        ),
-        (
-            false,
-            "no path of the cache",
-            b"acng-head 1\npath a/../b\norigin fetched 0 0\nsize 3\nchecked 9\nend\n".as_slice(),
-        ),
-        (
-            false,
-            "the first attempt above the last",
-            b"acng-head 1\npath a\norigin fetched 2 1\nsize 3\nchecked 9\nend\n".as_slice(),
-        ),
-        (
-            false,
-            "an attempt of 2^63",
-            b"acng-head 1\npath a\norigin fetched 0 9223372036854775808\nsize 3\nchecked 9\nend\n".as_slice(),
-        ),
-        (
-            false,
-            "one attempt",
-            b"acng-head 1\npath a\norigin fetched 0\nsize 3\nchecked 9\nend\n".as_slice(),
-        ),
-        (
-            false,
-            "another origin",
-            b"acng-head 1\npath a\norigin copied 0 0\nsize 3\nchecked 9\nend\n".as_slice(),
-        ),
-        (
-            false,
-            "a hash in upper case",
-            b"acng-head 1\npath a\n\
-            origin imported BA7816BF8F01CFEA414140DE5DAE2223B00361A396177A9CB410FF61F20015AD\nsize 3\nchecked 9\nend\n"
-                .as_slice(),
-        ),
-        (
-            false,
-            "a hash of 63 digits",
-            b"acng-head 1\npath a\n\
-            origin imported ba7816bf8f01cfea414140de5dae2223b00361a396177a9cb410ff61f20015a\nsize 3\nchecked 9\nend\n"
-                .as_slice(),
-        ),
-        (
-            false,
-            "a hash of 65 digits",
-            b"acng-head 1\npath a\n\
-            origin imported ba7816bf8f01cfea414140de5dae2223b00361a396177a9cb410ff61f20015ad0\nsize 3\nchecked 9\nend\n"
-                .as_slice(),
-        ),
-        (
-            false,
-            "an import with a size of its own",
-            b"acng-head 1\npath a\n\
-            origin imported ba7816bf8f01cfea414140de5dae2223b00361a396177a9cb410ff61f20015ad 3\nsize 3\nchecked 9\nend\n"
-                .as_slice(),
-        ),
-        (
-            false,
-            "a size above 2^41",
-            b"acng-head 1\npath a\norigin fetched 0 0\nsize 2199023255553\nchecked 9\nend\n".as_slice(),
-        ),
-        (
-            false,
-            "a weak tag",
-            b"acng-head 1\npath a\norigin fetched 0 0\nsize 3\ntag W/\"x\"\nchecked 9\nend\n".as_slice(),
-        ),
-        (
-            false,
-            "modified in the year 10000",
-            b"acng-head 1\npath a\norigin fetched 0 0\nsize 3\nmodified 253402300800\nchecked 9\nend\n".as_slice(),
-        ),
-        (
-            false,
-            "modified with no moment",
-            b"acng-head 1\npath a\norigin fetched 0 0\nsize 3\nmodified \nchecked 9\nend\n".as_slice(),
-        ),
-        (
-            false,
-            "version 2",
-            b"acng-head 2\npath a\norigin fetched 0 0\nsize 3\nchecked 9\nend\n".as_slice(),
-        ),
-        (false, "nothing", b"".as_slice()),
-    ] {
-        let head = read_head(rt.alloc(), text).map_err(|_| "no memory")?;
-        assert_eq!(rt; head.is_some(), lawful, "{why}");
+    for (why, text) in LAWFUL {
+        assert!(rt; is_read(rt.alloc(), text)?, "{why}");
+    }
+    for (why, text) in UNLAWFUL {
+        assert!(rt; !is_read(rt.alloc(), text)?, "{why}");
     }
     Ok(())
 }
