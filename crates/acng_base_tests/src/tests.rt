@@ -12,72 +12,106 @@ use std::alloc::Global;
 use std::io::{Error, ErrorKind, Read, Write};
 use std::test::Fail;
 
+// Each text with what is wrong with it as a path.
+const PATHS: &[(&[u8], Option<PathFault>)] = &[
+    (b"debrep/pool/a_1.deb", None),
+    (b"a", None),
+    (b"...", None),
+    (b"a/.b/c..", None),
+    (b"", Some(PathFault::Empty)),
+    (b"a b", Some(PathFault::BadByte { at: 1 })),
+    (b"a/../\x7f", Some(PathFault::BadByte { at: 5 })),
+    (b"debian/../etc", Some(PathFault::BadSegment { at: 7 })),
+    (b"/a", Some(PathFault::BadSegment { at: 0 })),
+    (b"a//b", Some(PathFault::BadSegment { at: 2 })),
+    (b"a/.", Some(PathFault::BadSegment { at: 2 })),
+    (b"a/", Some(PathFault::BadSegment { at: 2 })),
+];
+
+// What is wrong with a text that is read as a path, or that a path is made of; none where it is the path's text.
+fn fault_of_copy(alloc: Global, text: &[u8]) -> Result<Option<PathFault>, Fail> {
+    match CachePath::read(alloc, text) {
+        Ok(path) => {
+            let again = path.again(alloc).map_err(|_| "memory")?;
+            if again.as_bytes() == text {
+                Ok(None)
+            } else {
+                Err("another path")?
+            }
+        }
+        Err(fault) => Ok(Some(fault)),
+    }
+}
+
+fn fault_of_own(alloc: Global, text: &[u8]) -> Result<Option<PathFault>, Fail> {
+    match CachePath::of(Vec::from_slice(alloc, text)?) {
+        Ok(path) => if path.as_bytes() == text {
+            Ok(None)
+        } else {
+            Err("another path")?
+        },
+        Err(fault) => Ok(Some(fault)),
+    }
+}
+
 #[test]
 fn a_path_names_one_file(rt: HostRuntime) -> Result<(), Fail> {
+    for (text, fault) in PATHS {
+        assert_eq!(rt; CachePath::refusal(text), *fault);
+        assert_eq!(rt; fault_of_copy(rt.alloc(), text)?, *fault);
+        assert_eq!(rt; fault_of_own(rt.alloc(), text)?, *fault);
+    }
+    Ok(())
+}
+
+#[test]
+fn a_path_has_at_most_1024_bytes(rt: HostRuntime) -> Result<(), Fail> {
     let long = vec![in rt.alloc(); b'a'; 1025]?;
     assert_eq!(rt; CachePath::refusal(&long[..1024]), None);
     assert_eq!(rt;
         CachePath::refusal(&long),
         Some(PathFault::TooLong { len: 1025 })
     );
-    for (text, refusal) in [
-        (b"debrep/pool/a_1.deb".as_slice(), None),
-        (b"a".as_slice(), None),
-        (b"...".as_slice(), None),
-        (b"a/.b/c..".as_slice(), None),
-        (b"".as_slice(), Some(PathFault::Empty)),
-        (b"a b".as_slice(), Some(PathFault::BadByte { at: 1 })),
-        (b"a/../\x7f".as_slice(), Some(PathFault::BadByte { at: 5 })),
-        (
-            b"debian/../etc".as_slice(),
-            Some(PathFault::BadSegment { at: 7 }),
-        ),
-        (b"/a".as_slice(), Some(PathFault::BadSegment { at: 0 })),
-        (b"a//b".as_slice(), Some(PathFault::BadSegment { at: 2 })),
-        (b"a/.".as_slice(), Some(PathFault::BadSegment { at: 2 })),
-        (b"a/".as_slice(), Some(PathFault::BadSegment { at: 2 })),
-    ] {
-        assert_eq!(rt; CachePath::refusal(text), refusal);
-        match CachePath::read(rt.alloc(), text) {
-            Ok(path) => assert!(rt;
-                path.again(rt.alloc()).map_err(|_| "memory")?.as_bytes() == text
-            ),
-            Err(fault) => assert_eq!(rt; Some(fault), refusal),
-        }
-        match CachePath::of(Vec::from_slice(rt.alloc(), text)?) {
-            Ok(path) => assert!(rt; path.as_bytes() == text),
-            Err(fault) => assert_eq!(rt; Some(fault), refusal),
-        }
+    Ok(())
+}
+
+// Each text, and whether it is a strong tag.
+const TAGS: &[(&[u8], bool)] = &[
+    (b"\"\"", true),
+    (b"\"x\"", true),
+    (b"\"!#~\"", true),
+    (b"\"", false),
+    (b"", false),
+    (b"W/\"x\"", false),
+    (b"\"x", false),
+    (b"x\"", false),
+    (b"\"a\"b\"", false),
+    (b"\"a b\"", false),
+    (b"\"\x7f\"", false),
+];
+
+// Whether the text is read as a tag, which then has this text.
+fn is_tag(text: &[u8]) -> bool {
+    Tag::read(text).is_some_and(|tag| tag.again().as_bytes() == text)
+}
+
+#[test]
+fn a_strong_tag_is_read_and_a_weak_one_is_not(rt: HostRuntime) -> Result<(), Fail> {
+    for (text, strong) in TAGS {
+        assert_eq!(rt; is_tag(text), *strong);
+        assert_eq!(rt; Tag::read(text).is_some(), *strong);
     }
     Ok(())
 }
 
 #[test]
-fn a_strong_tag_is_read_and_a_weak_one_is_not(rt: HostRuntime) -> Result<(), Fail> {
+fn a_tag_has_at_most_256_bytes(rt: HostRuntime) -> Result<(), Fail> {
     let mut long = vec![in rt.alloc(); b'a'; 257]?;
     long[0] = b'"';
     long[255] = b'"';
     long[256] = b'"';
-    for (text, strong) in [
-        (b"\"\"".as_slice(), true),
-        (b"\"x\"".as_slice(), true),
-        (b"\"!#~\"".as_slice(), true),
-        (&long[..256], true),
-        (&long[..], false),
-        (b"\"".as_slice(), false),
-        (b"".as_slice(), false),
-        (b"W/\"x\"".as_slice(), false),
-        (b"\"x".as_slice(), false),
-        (b"x\"".as_slice(), false),
-        (b"\"a\"b\"".as_slice(), false),
-        (b"\"a b\"".as_slice(), false),
-        (b"\"\x7f\"".as_slice(), false),
-    ] {
-        match Tag::read(text) {
-            Some(tag) => assert!(rt; strong && tag.again().as_bytes() == text),
-            None => assert!(rt; !strong),
-        }
-    }
+    assert!(rt; is_tag(&long[..256]));
+    assert!(rt; Tag::read(&long).is_none());
     Ok(())
 }
 
@@ -89,39 +123,60 @@ fn sent(alloc: Global, room: usize, cut: usize, fail: u64) -> Result<(bool, usiz
     Ok((whole && front, link.written().len(), link.faults()))
 }
 
+// The room, the cut, the number of the call that fails, whether the piece goes out whole, and how much of it.
+const PIECES: &[(usize, usize, u64, bool, usize)] = &[
+    (9, 9, 9, true, 5),
+    (5, 1, 9, true, 5),
+    (4, 9, 9, false, 4),
+    (0, 9, 9, false, 0),
+    (9, 9, 0, false, 0),
+    (9, 2, 1, false, 2),
+    (9, 2, 2, false, 4),
+];
+
 #[test]
 fn a_piece_goes_out_whole_or_a_front_of_it(rt: HostRuntime) -> Result<(), Fail> {
-    for (room, cut, fail, whole, count) in [
-        (9, 9, 9, true, 5),
-        (5, 1, 9, true, 5),
-        (4, 9, 9, false, 4),
-        (0, 9, 9, false, 0),
-        (9, 9, 0, false, 0),
-        (9, 2, 1, false, 2),
-        (9, 2, 2, false, 4),
-    ] {
-        let outcome = sent(rt.alloc(), room, cut, fail).map_err(|_| "memory")?;
-        assert_eq!(rt; outcome, (whole, count, u64::from(!whole)));
+    for (room, cut, fail, whole, count) in PIECES {
+        let outcome = sent(rt.alloc(), *room, *cut, *fail).map_err(|_| "memory")?;
+        assert_eq!(rt; outcome, (*whole, *count, u64::from(!*whole)));
     }
     let mut link = MemoryLink::new(rt.alloc(), b"", 3, 2, &[]).map_err(|_| "memory")?;
     assert_eq!(rt; send_counted(&mut link, b"abcde"), (3, Err(Failed)));
     Ok(())
 }
 
+// The room of each read in turn, and what is read: the second call fails.
+const READS: &[(usize, Result<&[u8], Failed>)] = &[
+    (4, Ok(b"abc")),
+    (4, Err(Failed)),
+    (2, Ok(b"de")),
+    (4, Ok(b"f")),
+    (4, Ok(b"")),
+];
+
 #[test]
 fn a_read_is_cut_and_ends(rt: HostRuntime) -> Result<(), Fail> {
-    let mut buf = [0; 4];
     let mut link = MemoryLink::new(rt.alloc(), b"abcdef", 0, 3, &[1]).map_err(|_| "memory")?;
-    assert_eq!(rt; link.read(&mut buf), Ok(3));
-    assert!(rt; buf.starts_with(b"abc"));
-    assert_eq!(rt; link.read(&mut buf), Err(Failed));
-    assert_eq!(rt; link.read(&mut buf[..2]), Ok(2));
-    assert!(rt; buf.starts_with(b"de"));
-    assert_eq!(rt; link.read(&mut buf), Ok(1));
-    assert_eq!(rt; link.read(&mut buf), Ok(0));
+    for (room, read) in READS {
+        let mut buf = [0; 4];
+        let count = link.read(&mut buf[..*room]);
+        assert_eq!(rt; count, read.map(|bytes| bytes.len()));
+        assert!(rt; buf.starts_with(read.unwrap_or(b"")));
+    }
+    Ok(())
+}
+
+#[test]
+fn a_source_fails_where_it_is_said_to_and_goes_on(rt: HostRuntime) -> Result<(), Fail> {
+    let mut buf = [0; 4];
     let mut source = MemorySource::new(rt.alloc(), b"ab", 1, &[0]).map_err(|_| "memory")?;
     assert_eq!(rt; source.read(&mut buf), Err(Failed));
     assert_eq!(rt; source.read(&mut buf), Ok(1));
+    Ok(())
+}
+
+#[test]
+fn a_sink_takes_what_it_has_room_for(rt: HostRuntime) -> Result<(), Fail> {
     let mut sink = MemorySink::new(rt.alloc(), 2, 9, &[]).map_err(|_| "memory")?;
     assert_eq!(rt; sink.write(b"abc"), Ok(2));
     assert!(rt; sink.written() == b"ab".as_slice());
@@ -153,20 +208,23 @@ fn block_end(text: &[u8], cut: usize) -> Option<usize> {
     None
 }
 
+// Each text, and where its block ends.
+const BLOCKS: &[(&[u8], Option<usize>)] = &[
+    (b"GET / HTTP/1.1\r\n\r\nrest", Some(18)),
+    (b"a\n\nrest", Some(3)),
+    (b"\r\n\na\r\nb\n\r\n", Some(10)),
+    (b"a\r\r\n\r\n", Some(6)),
+    (b"a\n\ra\n\n", Some(6)),
+    (b"\n\r\n\n", None),
+    (b"a\r\n\r", None),
+    (b"", None),
+];
+
 #[test]
 fn a_block_ends_at_its_first_empty_line_in_any_cutting(rt: HostRuntime) {
-    for (text, end) in [
-        (b"GET / HTTP/1.1\r\n\r\nrest".as_slice(), Some(18)),
-        (b"a\n\nrest".as_slice(), Some(3)),
-        (b"\r\n\na\r\nb\n\r\n".as_slice(), Some(10)),
-        (b"a\r\r\n\r\n".as_slice(), Some(6)),
-        (b"a\n\ra\n\n".as_slice(), Some(6)),
-        (b"\n\r\n\n".as_slice(), None),
-        (b"a\r\n\r".as_slice(), None),
-        (b"".as_slice(), None),
-    ] {
+    for (text, end) in BLOCKS {
         for cut in [1, 2, 4096] {
-            assert_eq!(rt; block_end(text, cut), end, "cut {cut}");
+            assert_eq!(rt; block_end(text, cut), *end, "cut {cut}");
         }
     }
 }
@@ -175,14 +233,22 @@ fn a_block_ends_at_its_first_empty_line_in_any_cutting(rt: HostRuntime) {
 fn texts_keep_their_order(rt: HostRuntime) -> Result<(), Fail> {
     let mut texts = Texts::new(rt.alloc());
     assert!(rt; texts.is_empty());
-    texts.push(rt.alloc(), b"b").map_err(|_| "memory")?;
-    texts.push(rt.alloc(), b"").map_err(|_| "memory")?;
+    for text in [b"b".as_slice(), b"".as_slice()] {
+        texts.push(rt.alloc(), text).map_err(|_| "memory")?;
+    }
     assert_eq!(rt; texts.len(), 2);
     assert!(rt; texts.get(0) == b"b".as_slice() && texts.get(1).is_empty());
+    Ok(())
+}
+
+#[test]
+fn a_text_is_pushed_as_it_is(rt: HostRuntime) -> Result<(), Fail> {
     let text = Text::copy(rt.alloc(), b"abc").map_err(|_| "memory")?;
     assert!(rt; text.as_bytes() == b"abc".as_slice());
+    let mut texts = Texts::new(rt.alloc());
+    texts.push(rt.alloc(), b"b").map_err(|_| "memory")?;
     texts.push_text(text).map_err(|_| "memory")?;
-    assert!(rt; texts.get(2) == b"abc".as_slice());
+    assert!(rt; texts.len() == 2 && texts.get(1) == b"abc".as_slice());
     Ok(())
 }
 
@@ -212,19 +278,22 @@ fn bytes_are_found_and_copied(rt: HostRuntime) {
     assert!(rt; room == *b"xab.");
 }
 
-// A length has 1 to 13 digits and is at most 2^41; 19 digits always fit 64 bits.
+// Each text, and the length that it says: 1 to 13 digits, and at most 2^41.
+const LENGTHS: &[(&[u8], Option<u64>)] = &[
+    (b"0", Some(0)),
+    (b"0000000000017", Some(17)),
+    (b"2199023255552", Some(2_199_023_255_552)),
+    (b"2199023255553", None),
+    (b"00000000000017", None),
+    (b"", None),
+    (b"+1", None),
+];
+
+// 19 digits always fit 64 bits.
 #[test]
 fn a_number_has_few_digits(rt: HostRuntime) {
-    for (text, length) in [
-        (b"0".as_slice(), Some(0)),
-        (b"0000000000017".as_slice(), Some(17)),
-        (b"2199023255552".as_slice(), Some(2_199_023_255_552)),
-        (b"2199023255553".as_slice(), None),
-        (b"00000000000017".as_slice(), None),
-        (b"".as_slice(), None),
-        (b"+1".as_slice(), None),
-    ] {
-        assert_eq!(rt; read_length(text), length);
+    for (text, length) in LENGTHS {
+        assert_eq!(rt; read_length(text), *length);
     }
     assert_eq!(rt;
         read_digits(b"9999999999999999999", 19),
@@ -233,14 +302,13 @@ fn a_number_has_few_digits(rt: HostRuntime) {
     assert_eq!(rt; read_digits(b"10000000000000000000", 19), None);
 }
 
+// Each line, and what is between its blanks at both ends.
+const LINES: &[(&[u8], &[u8])] = &[(b" \ta b\t ", b"a b"), (b"\t ", b""), (b"a\r", b"a\r")];
+
 #[test]
 fn a_line_loses_its_ends_and_has_words(rt: HostRuntime) -> Result<(), Fail> {
-    for (text, inner) in [
-        (b" \ta b\t ".as_slice(), b"a b".as_slice()),
-        (b"\t ".as_slice(), b"".as_slice()),
-        (b"a\r".as_slice(), b"a\r".as_slice()),
-    ] {
-        assert!(rt; trim(text) == inner);
+    for (text, inner) in LINES {
+        assert!(rt; trim(text) == *inner);
     }
     assert!(rt; without_cr(b"a\r\r") == b"a\r".as_slice() && without_cr(b"").is_empty());
     let found = words(rt.alloc(), b" a  bc\td ").map_err(|_| "memory")?;
@@ -249,49 +317,53 @@ fn a_line_loses_its_ends_and_has_words(rt: HostRuntime) -> Result<(), Fail> {
     Ok(())
 }
 
+// Each path, its folder, and its name without a packed ending.
+const NAMES: &[(&[u8], &[u8], &[u8])] = &[
+    (b"dists/sid/Packages.xz", b"dists/sid", b"Packages"),
+    (b"a.gz.bz2", b"", b"a.gz"),
+    (b"a/b.zst/c", b"a/b.zst", b"c"),
+    (b"a/", b"a", b""),
+];
+
 #[test]
 fn a_packed_file_has_its_name(rt: HostRuntime) {
-    for (path, folder, name) in [
-        (
-            b"dists/sid/Packages.xz".as_slice(),
-            b"dists/sid".as_slice(),
-            b"Packages".as_slice(),
-        ),
-        (b"a.gz.bz2".as_slice(), b"".as_slice(), b"a.gz".as_slice()),
-        (
-            b"a/b.zst/c".as_slice(),
-            b"a/b.zst".as_slice(),
-            b"c".as_slice(),
-        ),
-        (b"a/".as_slice(), b"a".as_slice(), b"".as_slice()),
-    ] {
+    for (path, folder, name) in NAMES {
         let (before, _) = cut_last(path);
-        assert!(rt; before == folder && base_name(path) == name);
+        assert!(rt; before == *folder && base_name(path) == *name);
     }
 }
 
-// Each row: what is read and used in turn, as the count to use and what is then held.
+// What is used after each read of three bytes, and what is then held. Where all room is taken nothing is read.
+const USED: &[(usize, &[u8])] = &[(1, b"bc"), (3, b"ef"), (0, b"efghi"), (0, b"efghijkl")];
+
+// Reads once where there is room, and uses so many bytes.
+fn read_and_use(unread: &mut Unread<8>, link: &mut MemoryLink, used: usize) -> bool {
+    let is_read = unread.is_full() || unread.fill(link) == Ok(3);
+    if used <= unread.as_bytes().len() {
+        unread.use_up(used);
+    }
+    is_read
+}
+
 #[test]
 fn unread_bytes_stay_in_order(rt: HostRuntime) -> Result<(), Fail> {
-    let mut link = MemoryLink::new(rt.alloc(), b"abcdefghijkl", 0, 3, &[4]).map_err(|_| "memory")?;
+    let mut link = MemoryLink::new(rt.alloc(), b"abcdefghijkl", 0, 3, &[]).map_err(|_| "memory")?;
     let mut unread = Unread::<8>::new(rt.alloc()).map_err(|_| "memory")?;
     assert!(rt; unread.is_empty());
-    for (read, used, held) in [
-        (Ok(3), 1, b"bc".as_slice()),
-        (Ok(3), 3, b"ef".as_slice()),
-        (Ok(3), 0, b"efghi".as_slice()),
-        (Ok(3), 0, b"efghijkl".as_slice()),
-    ] {
+    for (used, held) in USED {
         assert!(rt; !unread.is_full());
-        if unread.as_bytes().len() < 8 {
-            assert_eq!(rt; unread.fill(&mut link), read);
-        }
-        if used <= unread.as_bytes().len() {
-            unread.use_up(used);
-        }
-        assert!(rt; unread.as_bytes() == held);
+        assert!(rt; read_and_use(&mut unread, &mut link, *used));
+        assert!(rt; unread.as_bytes() == *held);
     }
     assert!(rt; unread.is_full());
+    Ok(())
+}
+
+#[test]
+fn unread_bytes_end_where_the_link_fails_or_ends(rt: HostRuntime) -> Result<(), Fail> {
+    let mut link = MemoryLink::new(rt.alloc(), b"abc", 0, 3, &[1]).map_err(|_| "memory")?;
+    let mut unread = Unread::<8>::new(rt.alloc()).map_err(|_| "memory")?;
+    assert_eq!(rt; unread.fill(&mut link), Ok(3));
     unread.use_up(unread.as_bytes().len());
     assert!(rt; unread.is_empty());
     assert_eq!(rt; unread.fill(&mut link), Err(Failed));
