@@ -1,5 +1,5 @@
 //! What all steps of an answer bring together, and the checks that the tables share.
-ghost use Rattle.std.specs.Prelude.{◌≤◌, ◌^◌};
+ghost use Rattle.std.specs.Prelude.{◌≤◌, ◌^◌, length, IfOk};
 
 use acng_answer::{AnswerReader, Step};
 use std::alloc::Global;
@@ -32,8 +32,43 @@ pub struct Heard {
     pub end: Option<Step>,
 }
 
-pub fn bad(at: u64) -> Option<Step> {
-    Some(Step::Bad { at })
+// Takes one piece of at most `cut` bytes, and says how many of them were used.
+fn take_piece(
+    reader: &mut AnswerReader,
+    body: &mut Vec<u8>,
+    left: &[u8],
+    cut: usize,
+) -> Result<usize, Fail>
+    ensures { IfOk result (λ used. used ≤ length left.now) }
+{
+    if left.is_empty() || cut == 0 {
+        return Ok(0);
+    }
+    let piece = if cut < left.len() { &left[..cut] } else { left };
+    let (used, step) = reader.feed(piece);
+    if let Step::Body { start, stop } = step {
+        body.extend_from_slice(&piece[start..stop])?;
+    }
+    Ok(used)
+}
+
+/// Feeds the reader with a text in pieces of at most `cut` bytes until its answer is over, and gives the body.
+pub fn feed_all(
+    alloc: Global,
+    reader: &mut AnswerReader,
+    text: &[u8],
+    cut: usize,
+) -> Result<Vec<u8>, Fail> {
+    let mut body = Vec::new(alloc);
+    let mut left = text;
+    for _ in 0..text.len() {
+        if left.is_empty() || reader.over().is_some() {
+            break;
+        }
+        let used = take_piece(reader, &mut body, left, cut)?;
+        left = &left[used..];
+    }
+    Ok(body)
 }
 
 /// Hears a text in pieces of at most `cut` bytes.
@@ -41,19 +76,7 @@ pub fn hear(alloc: Global, text: &[u8], ended: bool, limit: u64, cut: usize) -> 
     requires { limit ≤ 2 ^ 41 }
 {
     let mut reader = AnswerReader::with_limit(alloc, limit)?;
-    let mut body = Vec::new(alloc);
-    let mut left = text;
-    for _ in 0..text.len() {
-        if left.is_empty() || cut == 0 || reader.over().is_some() {
-            break;
-        }
-        let piece = if cut < left.len() { &left[..cut] } else { left };
-        let (used, step) = reader.feed(piece);
-        if let Step::Body { start, stop } = step {
-            body.extend_from_slice(&piece[start..stop])?;
-        }
-        left = &left[used..];
-    }
+    let body = feed_all(alloc, &mut reader, text, cut)?;
     let end = if ended {
         Some(reader.stop())
     } else {
@@ -80,19 +103,17 @@ fn expect(rt: &impl Abort, alloc: Global, row: &Row, cut: usize) -> Result<(), F
     let (text, ended, limit, status, body, end) = *row;
     assert!(rt; limit <= LIMIT);
     let heard = hear(alloc, text, ended, limit, cut)?;
-    assert_eq!(rt; heard.status, status, "status of {text:?} in cuts of {cut}");
     assert_eq!(rt;
-        heard.body.as_slice(),
-        body,
-        "body of {text:?} in cuts of {cut}"
+        (heard.status, heard.body.as_slice(), heard.end),
+        (status, body, end),
+        "status, body and end of {text:?} in cuts of {cut}"
     );
-    assert_eq!(rt; heard.end, end, "end of {text:?} in cuts of {cut}");
     Ok(())
 }
 
 /// Hears every prefix of a text, with the connection ended after it and not.
-pub fn expect_prefixes(rt: &impl Abort, alloc: Global, row: Prefixes) -> Result<(), Fail> {
-    let (text, over, end, from, to) = row;
+pub fn expect_prefixes(rt: &impl Abort, alloc: Global, row: &Prefixes) -> Result<(), Fail> {
+    let (text, over, end, from, to) = *row;
     for len in 0..text.len() + 1 {
         let prefix = &text[..len];
         let (open, ended) = if over <= len {
@@ -102,10 +123,22 @@ pub fn expect_prefixes(rt: &impl Abort, alloc: Global, row: Prefixes) -> Result<
         } else {
             (OPEN, EARLY)
         };
-        let goes_on = hear(alloc, prefix, false, LIMIT, 7)?;
-        assert_eq!(rt; goes_on.end, open, "{prefix:?}, not ended");
-        let stops = hear(alloc, prefix, true, LIMIT, 7)?;
-        assert_eq!(rt; stops.end, ended, "{prefix:?}, ended");
+        expect_end(rt, alloc, prefix, false, open)?;
+        expect_end(rt, alloc, prefix, true, ended)?;
     }
+    Ok(())
+}
+
+// Hears a prefix, with the connection ended after it or not.
+fn expect_end(
+    rt: &impl Abort,
+    alloc: Global,
+    prefix: &[u8],
+    ended: bool,
+    end: Option<Step>,
+) -> Result<(), Fail> {
+    let heard = hear(alloc, prefix, ended, LIMIT, 7)?;
+    let then = if ended { "ended" } else { "not ended" };
+    assert_eq!(rt; heard.end, end, "{prefix:?}, {then}");
     Ok(())
 }

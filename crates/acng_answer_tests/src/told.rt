@@ -1,6 +1,7 @@
 //! What is told of the final head. Expected values are by hand, from RFC 9110, sections 5.6.7, 8.8 and 14.4.
 
-use acng_answer::AnswerReader;
+use crate::hearing::feed_all;
+use acng_answer::{AnswerHead, AnswerReader};
 use acng_base::Moment;
 use std::alloc::Global;
 use std::process::Abort;
@@ -18,16 +19,23 @@ const TWICE: &[u8] =
 // A reader that has taken the text, in pieces of at most `cut` bytes.
 fn taken(alloc: Global, text: &[u8], cut: usize) -> Result<AnswerReader, Fail> {
     let mut reader = AnswerReader::new(alloc)?;
-    let mut left = text;
-    for _ in 0..text.len() {
-        if left.is_empty() || cut == 0 || reader.over().is_some() {
-            break;
-        }
-        let piece = if cut < left.len() { &left[..cut] } else { left };
-        let (used, _) = reader.feed(piece);
-        left = &left[used..];
-    }
+    feed_all(alloc, &mut reader, text, cut)?;
     Ok(reader)
+}
+
+// What is told of the part, but its tag.
+fn expect_part(rt: &impl Abort, head: &AnswerHead) {
+    assert_eq!(rt; head.status, 206);
+    assert_eq!(rt; head.length, None);
+    assert_eq!(rt; head.range, Some((0, 3, 9)));
+    assert_eq!(rt; head.modified, Some(Moment(784_111_777)));
+}
+
+fn expect_tag(rt: &impl Abort, head: &AnswerHead, cut: usize) {
+    match &head.tag {
+        Some(tag) => assert_eq!(rt; tag.as_bytes(), b"\"x\"".as_slice()),
+        None => panic!(rt; "no tag in cuts of {cut}"),
+    }
 }
 
 #[test]
@@ -35,22 +43,22 @@ fn a_part_is_told_with_its_validators(rt: HostRuntime) -> Result<(), Fail> {
     for cut in [1, 7, 4096] {
         let reader = taken(rt.alloc(), HEAD, cut)?;
         let Some(head) = reader.head() else {
-            assert!(&rt; false, "no head in cuts of {cut}");
-            return Ok(());
+            panic!(rt; "no head in cuts of {cut}");
         };
-        assert_eq!(&rt; head.status, 206);
-        assert_eq!(&rt; head.length, None);
-        assert_eq!(&rt; head.range, Some((0, 3, 9)));
-        assert_eq!(&rt; head.modified, Some(Moment(784_111_777)));
-        let Some(tag) = &head.tag else {
-            assert!(&rt; false, "no tag in cuts of {cut}");
-            return Ok(());
-        };
-        assert_eq!(&rt; tag.as_bytes(), b"\"x\"".as_slice());
-        assert_eq!(&rt; reader.due(), Some(4));
-        assert!(&rt; reader.location().is_none());
+        expect_part(&rt, head);
+        expect_tag(&rt, head, cut);
+        assert_eq!(rt; reader.due(), Some(4));
+        assert!(rt; reader.location().is_none());
     }
     Ok(())
+}
+
+// What is told of the redirect, but its place: neither its weak tag nor a date that is none.
+fn expect_redirect(rt: &impl Abort, head: &AnswerHead) {
+    assert_eq!(rt; head.status, 302);
+    assert_eq!(rt; head.length, Some(0));
+    assert!(rt; head.tag.is_none());
+    assert_eq!(rt; head.modified, None);
 }
 
 #[test]
@@ -58,18 +66,13 @@ fn a_redirect_is_told_with_its_place(rt: HostRuntime) -> Result<(), Fail> {
     for cut in [1, 7, 4096] {
         let reader = taken(rt.alloc(), REDIRECT, cut)?;
         let Some(place) = reader.location() else {
-            assert!(&rt; false, "no place in cuts of {cut}");
-            return Ok(());
+            panic!(rt; "no place in cuts of {cut}");
         };
-        assert_eq!(&rt; place, b"http://h/a?b".as_slice(), "in cuts of {cut}");
+        assert_eq!(rt; place, b"http://h/a?b".as_slice(), "in cuts of {cut}");
         let Some(head) = reader.head() else {
-            assert!(&rt; false, "no head in cuts of {cut}");
-            return Ok(());
+            panic!(rt; "no head in cuts of {cut}");
         };
-        assert_eq!(&rt; head.status, 302);
-        assert_eq!(&rt; head.length, Some(0));
-        assert!(&rt; head.tag.is_none());
-        assert_eq!(&rt; head.modified, None);
+        expect_redirect(&rt, head);
     }
     Ok(())
 }
