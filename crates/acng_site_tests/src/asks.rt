@@ -50,7 +50,19 @@ pub fn read_all<C: Conn>(alloc: Global, mut conn: C) -> Result<(Vec<u8>, Option<
     Ok((all, None))
 }
 
-// What an attempt gives: nothing and its slip where the dial faults.
+// What a dial gives: nothing and its slip where it faults.
+pub fn given<C: Conn>(
+    alloc: Global,
+    dial: Dial<C, C::Slip>,
+) -> Result<(Vec<u8>, Option<u64>), NoMemory> {
+    match dial {
+        Dial::Up(conn) => read_all(alloc, conn),
+        Dial::Fault(slip) => Ok((Vec::new(alloc), Some(slip.attempt()))),
+        Dial::NoMemory => Err(NoMemory),
+    }
+}
+
+// What an attempt gives.
 pub fn outcome<O: Origin<Untold>>(
     alloc: Global,
     origin: &O,
@@ -59,9 +71,5 @@ pub fn outcome<O: Origin<Untold>>(
 ) -> Result<(Vec<u8>, Option<u64>), NoMemory>
     requires { ask.now.since ≡ None }
 {
-    match origin.dial(alloc, attempt, ask) {
-        Dial::Up(conn) => read_all(alloc, conn),
-        Dial::Fault(slip) => Ok((Vec::new(alloc), Some(slip.attempt()))),
-        Dial::NoMemory => Err(NoMemory),
-    }
+    given(alloc, origin.dial(alloc, attempt, ask))
 }

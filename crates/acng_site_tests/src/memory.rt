@@ -2,9 +2,9 @@
 ghost use Rattle.std.specs.Prelude.{◌<◌, ◌&&◌, true, false, [], ◌∷◌, bytes_eq, codes, IfSome};
 ghost use Rattle.acng_base.specs.Moments.{moment_limit};
 
-use crate::asks::{outcome, plain_ask, read_all, rule};
+use crate::asks::{given, outcome, plain_ask, rule};
 use acng_base::{Moment, Tag, Text};
-use acng_site::{Ask, Dial, Gate, MemoryOrigin, NoGate, Origin, Rule, Site, Untold};
+use acng_site::{Ask, Gate, MemoryOrigin, NoGate, Origin, Rule, Site, Untold};
 use std::alloc::Global;
 use std::sync::Arc;
 use std::sync::atomic::{AtomicU64, Ordering};
@@ -22,13 +22,16 @@ http://a/f 5 1^^f|\
 http://a/g 0 1^^f|\
 http://a/ 0 1^^f";
 
-// Whether a row of them holds, with reads of so many bytes.
-fn holds(alloc: Global, rules: &[Rule], row: &str, cut: usize) -> Option<bool> {
-    let mut fields = row.split('^');
-    let mut words = fields.next()?.split(' ');
-    let url = words.next()?;
-    let from = words.next()?.parse::<u64>().ok()?;
-    let attempt = words.next()?.parse::<u64>().ok()?;
+// What the rules answer to an ask in an attempt, with reads of so many bytes.
+fn answered(
+    alloc: Global,
+    rules: &[Rule],
+    cut: usize,
+    ask: &str,
+    attempt: u64,
+) -> Option<(Vec<u8>, Option<u64>)> {
+    let (url, from) = ask.split_once(' ')?;
+    let ask = plain_ask(alloc, url.as_bytes(), from.parse::<u64>().ok()?).ok()?;
     if cut == 0 || attempt > 9 {
         return None;
     }
@@ -36,11 +39,17 @@ fn holds(alloc: Global, rules: &[Rule], row: &str, cut: usize) -> Option<bool> {
         alloc, rules, cut, NoGate,
     ).ok()?;
     right.skip_to(attempt);
-    let ask = plain_ask(alloc, url.as_bytes(), from).ok()?;
-    let (got, slip) = outcome(alloc, &origin, right.draw(), &ask).ok()?;
-    let bytes = fields.next()?;
-    let faults = fields.next()? == "f";
-    Some(got.as_slice() == bytes.as_bytes() && slip == faults.then_some(attempt))
+    outcome(alloc, &origin, right.draw(), &ask).ok()
+}
+
+// Whether a row of them holds, with reads of so many bytes.
+fn holds(alloc: Global, rules: &[Rule], row: &str, cut: usize) -> Option<bool> {
+    let (asked, rest) = row.split_once('^')?;
+    let (bytes, faults) = rest.split_once('^')?;
+    let (ask, attempt) = asked.rsplit_once(' ')?;
+    let attempt = attempt.parse::<u64>().ok()?;
+    let (got, slip) = answered(alloc, rules, cut, ask, attempt)?;
+    Some(got.as_slice() == bytes.as_bytes() && slip == (faults == "f").then_some(attempt))
 }
 
 // Before the first attempt of a rule and after the last one nothing answers; where two rules are for an attempt, the first
@@ -80,10 +89,7 @@ fn answer_to(alloc: Global, from: u64, tag: Option<Tag>, since: Option<Moment>) 
         tag,
         since,
     };
-    match origin.dial(alloc, right.draw(), &ask) {
-        Dial::Up(conn) => Some(read_all(alloc, conn).ok()?.0),
-        _ => None,
-    }
+    Some(given(alloc, origin.dial(alloc, right.draw(), &ask)).ok()?.0)
 }
 
 #[test]
@@ -129,11 +135,7 @@ fn an_origin_of_a_site_that_tells_starts(rt: HostRuntime) -> Result<(), Fail> {
     }];
     let (origin, mut right) = MemoryOrigin::<OneFile, NoGate>::start(alloc, &rules, 2, NoGate)?;
     let ask = plain_ask(alloc, b"http://a/f", 0)?;
-    let Dial::Up(conn) = origin.dial(alloc, right.draw(), &ask) else {
-        assert!(rt; false, "the dial comes up");
-        return Ok(());
-    };
-    let (bytes, slip) = read_all(alloc, conn)?;
+    let (bytes, slip) = given(alloc, origin.dial(alloc, right.draw(), &ask))?;
     assert_eq!(rt; bytes.as_slice(), b"abc".as_slice());
     assert_eq!(rt; slip, None);
     Ok(())
