@@ -34,45 +34,48 @@ fn refusal(alloc: Global, text: &[u8], cut: usize) -> Option<StanzaFault> {
     reader.close(alloc).err()
 }
 
+// Two lines, the second at its limit and above.
+const LINES: &[([usize; 2], Option<StanzaFault>)] = &[
+    ([4, LINE], None),
+    ([4, LINE + 1], Some(StanzaFault::LineTooLong { line: 2 })),
+];
+
 #[test]
 fn a_line_has_its_limit_in_any_cutting(rt: HostRuntime) -> Result<(), Fail> {
-    for (sizes, fault) in [
-        ([4, LINE], None),
-        ([4, LINE + 1], Some(StanzaFault::LineTooLong { line: 2 })),
-    ] {
-        let text = lines(rt.alloc(), &sizes, b"")?;
+    for (sizes, fault) in LINES {
+        let text = lines(rt.alloc(), sizes, b"")?;
         for cut in [1, 2, 7, 4096] {
             let found = refusal(rt.alloc(), &text, cut);
-            assert_eq!(rt; found, fault, "{sizes:?} in pieces of {cut}");
+            assert_eq!(rt; found, *fault, "{sizes:?} in pieces of {cut}");
         }
     }
     Ok(())
 }
 
+const TOO_LARGE: Option<StanzaFault> = Some(StanzaFault::TooLarge { line: 17 });
+
+// After fifteen lines of the greatest size: the size of the sixteenth, and what follows.
+const STANZAS: &[(usize, &[u8], Option<StanzaFault>)] = &[
+    (LINE, b"", None),
+    (LINE, b"a:", TOO_LARGE),
+    (LINE - 1, b"a:", TOO_LARGE),
+    (LINE - 2, b"a:", None),
+    // an empty line and a line of blanks are none of the stanza's
+    (LINE, b"\na:", None),
+    (LINE, b"  \na:", None),
+    // the limit goes before a bad line
+    (LINE, b"a", TOO_LARGE),
+    (LINE - 2, b"a", Some(StanzaFault::BadLine { line: 17 })),
+];
+
 #[test]
 fn a_stanza_has_its_limit(rt: HostRuntime) -> Result<(), Fail> {
-    let full = [LINE; 16];
-    let mut short = full;
-    short[15] = LINE - 2;
-    let mut almost = full;
-    almost[15] = LINE - 1;
-    let too_large = Some(StanzaFault::TooLarge { line: 17 });
-    let rows: [([usize; 16], &[u8], Option<StanzaFault>); 8] = [
-        (full, b"", None),
-        (full, b"a:", too_large),
-        (almost, b"a:", too_large),
-        (short, b"a:", None),
-        // an empty line and a line of blanks are none of the stanza's
-        (full, b"\na:", None),
-        (full, b"  \na:", None),
-        // the limit goes before a bad line
-        (full, b"a", too_large),
-        (short, b"a", Some(StanzaFault::BadLine { line: 17 })),
-    ];
-    for (sizes, last, fault) in rows {
+    for (sixteenth, last, fault) in STANZAS {
+        let mut sizes = [LINE; 16];
+        sizes[15] = *sixteenth;
         let text = lines(rt.alloc(), &sizes, last)?;
         let found = refusal(rt.alloc(), &text, 4096);
-        assert_eq!(rt; found, fault, "{last:?} after {sizes:?}");
+        assert_eq!(rt; found, *fault, "{last:?} after {sizes:?}");
     }
     Ok(())
 }
