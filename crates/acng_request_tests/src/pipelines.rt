@@ -1,9 +1,62 @@
 //! Requests one after another in one input, read from one buffer: no byte is lost, and none is read twice.
+ghost use Rattle.std.specs.Prelude.{◌≤◌};
+
 use acng_base::MemoryLink;
 use acng_request::{Got, HeadBuf, HeadFault, read_request};
 use std::alloc::Global;
 use std::process::Abort;
 use std::test::Fail;
+
+const TWO_AND_A_FRONT: &[u8] =
+    b"GET /a HTTP/1.1\r\nHost: h\r\n\r\n\r\nHEAD /b HTTP/1.0\n\nGET /c HTTP/1.1\r\n";
+
+// What comes in one piece, and what is read of it before the read that fails.
+const HELD: &[(&[u8], &[&str])] = &[
+    (
+        b"GET /a HTTP/1.1\r\n\r\nGET /b HTTP/1.1\r\n\r\n",
+        &["/a", "/b", "fault"],
+    ),
+    (
+        b"GET /a HTTP/1.1\r\n\r\nGET /b HTTP/9.9\r\n\r\n",
+        &["/a", "refused", "refused"],
+    ),
+    (
+        b"GET /a HTTP/1.1\r\n\r\nPOST /b HTTP/1.1\r\n\r\n",
+        &["/a", "refused"],
+    ),
+    (
+        b"GET /a HTTP/1.1\r\n\r\nGET /b HTTP/1.1\r\nContent-Length: 1\r\n\r\n",
+        &["/a", "refused"],
+    ),
+    (
+        b"GET /a HTTP/1.1\r\n\r\nGET /b HTTP/1.1\r\n\r",
+        &["/a", "fault"],
+    ),
+];
+
+/// A client's link, and what is held of its bytes.
+#[derive(Drop)]
+struct Client {
+    link: MemoryLink,
+    buf: HeadBuf,
+}
+
+// A client that sends these bytes, so many a read, and whose reads of these numbers fail.
+fn client_of(alloc: Global, input: &[u8], cut: usize, fail: &[u64]) -> Result<Client, Fail>
+    requires { 1 ≤ cut }
+{
+    let link = MemoryLink::new(alloc, input, 0, cut, fail);
+    let buf = HeadBuf::new(alloc);
+    Ok(Client {
+        link: link.ok().ok_or("memory")?,
+        buf: buf.ok().ok_or("memory")?,
+    })
+}
+
+// The client's next request.
+fn next(alloc: Global, client: &mut Client) -> Got {
+    read_request(alloc, &mut client.link, &mut client.buf)
+}
 
 // The target that was read, or a word.
 fn short(got: &Got) -> &[u8] {
@@ -17,16 +70,15 @@ fn short(got: &Got) -> &[u8] {
     }
 }
 
-// Reads so many requests from the link, each of which is what is wanted.
+// Reads so many requests of the client, each of which is what is wanted.
 fn read_each(
     rt: &impl Abort,
     alloc: Global,
-    link: &mut MemoryLink,
-    buf: &mut HeadBuf,
+    client: &mut Client,
     wants: &[&str],
 ) -> Result<(), Fail> {
     for want in wants {
-        let got = read_request(alloc, link, buf);
+        let got = next(alloc, client);
         assert_eq!(rt; short(&got), want.as_bytes(), "{want}");
     }
     Ok(())
@@ -34,27 +86,20 @@ fn read_each(
 
 #[test]
 fn two_requests_and_a_front_in_one_input(rt: HostRuntime) -> Result<(), Fail> {
-    let input = b"GET /a HTTP/1.1\r\nHost: h\r\n\r\n\r\nHEAD /b HTTP/1.0\n\nGET /c HTTP/1.1\r\n";
     for cut in [1, 2, 7, 4096] {
-        let alloc = rt.alloc();
-        let mut link = MemoryLink::new(alloc, input.as_slice(), 0, cut.max(1), [].as_slice())
-            .ok()
-            .ok_or("memory")?;
-        let mut buf = HeadBuf::new(alloc).ok().ok_or("memory")?;
+        let mut client = client_of(rt.alloc(), TWO_AND_A_FRONT, cut.max(1), &[])?;
         read_each(
             &rt,
-            alloc,
-            &mut link,
-            &mut buf,
-            ["/a", "/b", "ended", "ended"].as_slice(),
+            rt.alloc(),
+            &mut client,
+            &["/a", "/b", "ended", "ended"],
         )?;
     }
     Ok(())
 }
 
-#[test]
-fn a_thousand_requests_in_one_input(rt: HostRuntime) -> Result<(), Fail> {
-    let alloc = rt.alloc();
+// Requests for the targets from `/0` to `/999`.
+fn a_thousand(alloc: Global) -> Result<Vec<u8>, Fail> {
     let mut input = Vec::new(alloc);
     for number in 0..1000 {
         let head = format!(in alloc;
@@ -62,18 +107,41 @@ fn a_thousand_requests_in_one_input(rt: HostRuntime) -> Result<(), Fail> {
         )?;
         input.extend_from_slice(head.as_bytes())?;
     }
+    Ok(input)
+}
+
+// The client's next request is the one of this number.
+fn read_numbered(
+    rt: &impl Abort,
+    alloc: Global,
+    client: &mut Client,
+    number: u32,
+    cut: usize,
+) -> Result<(), Fail> {
+    let want = format!(in alloc; "/{number}")?;
+    let got = next(alloc, client);
+    assert_eq!(rt; short(&got), want.as_bytes(), "{number} in {cut}");
+    Ok(())
+}
+
+// Reads those requests, so many bytes a read.
+fn read_a_thousand(rt: &impl Abort, alloc: Global, input: &[u8], cut: usize) -> Result<(), Fail>
+    requires { 1 ≤ cut }
+{
+    let mut client = client_of(alloc, input, cut, &[])?;
+    for number in 0..1000 {
+        read_numbered(rt, alloc, &mut client, number, cut)?;
+    }
+    let got = next(alloc, &mut client);
+    assert_eq!(rt; short(&got), b"ended".as_slice(), "in {cut}");
+    Ok(())
+}
+
+#[test]
+fn a_thousand_requests_in_one_input(rt: HostRuntime) -> Result<(), Fail> {
+    let input = a_thousand(rt.alloc())?;
     for cut in [1, 2, 7, 4096] {
-        let mut link = MemoryLink::new(alloc, input.as_slice(), 0, cut.max(1), [].as_slice())
-            .ok()
-            .ok_or("memory")?;
-        let mut buf = HeadBuf::new(alloc).ok().ok_or("memory")?;
-        for number in 0..1000 {
-            let want = format!(in alloc; "/{number}")?;
-            let got = read_request(alloc, &mut link, &mut buf);
-            assert_eq!(rt; short(&got), want.as_bytes(), "{number} in {cut}");
-        }
-        let got = read_request(alloc, &mut link, &mut buf);
-        assert_eq!(rt; short(&got), b"ended".as_slice(), "in {cut}");
+        read_a_thousand(&rt, rt.alloc(), input.as_slice(), cut.max(1))?;
     }
     Ok(())
 }
@@ -81,74 +149,34 @@ fn a_thousand_requests_in_one_input(rt: HostRuntime) -> Result<(), Fail> {
 // A client that waits for its reply sends nothing more, so a read would hang.
 #[test]
 fn a_whole_head_that_is_held_is_read_without_the_link(rt: HostRuntime) -> Result<(), Fail> {
-    let alloc = rt.alloc();
-    for (input, wants) in [
-        (
-            b"GET /a HTTP/1.1\r\n\r\nGET /b HTTP/1.1\r\n\r\n".as_slice(),
-            ["/a", "/b", "fault"].as_slice(),
-        ),
-        (
-            b"GET /a HTTP/1.1\r\n\r\nGET /b HTTP/9.9\r\n\r\n".as_slice(),
-            ["/a", "refused", "refused"].as_slice(),
-        ),
-        (
-            b"GET /a HTTP/1.1\r\n\r\nPOST /b HTTP/1.1\r\n\r\n".as_slice(),
-            ["/a", "refused"].as_slice(),
-        ),
-        (
-            b"GET /a HTTP/1.1\r\n\r\nGET /b HTTP/1.1\r\nContent-Length: 1\r\n\r\n".as_slice(),
-            ["/a", "refused"].as_slice(),
-        ),
-        (
-            b"GET /a HTTP/1.1\r\n\r\nGET /b HTTP/1.1\r\n\r".as_slice(),
-            ["/a", "fault"].as_slice(),
-        ),
-    ] {
-        let mut link = MemoryLink::new(alloc, input, 0, 4096, [1].as_slice())
-            .ok()
-            .ok_or("memory")?;
-        let mut buf = HeadBuf::new(alloc).ok().ok_or("memory")?;
-        read_each(&rt, alloc, &mut link, &mut buf, wants)?;
+    for &(input, wants) in HELD {
+        let mut client = client_of(rt.alloc(), input, 4096, &[1])?;
+        read_each(&rt, rt.alloc(), &mut client, wants)?;
     }
     Ok(())
 }
 
 #[test]
 fn so_many_bytes_as_decide_are_refused_without_the_link(rt: HostRuntime) -> Result<(), Fail> {
-    let alloc = rt.alloc();
-    let mut input = Vec::new(alloc);
-    input.resize(20_000, b'x')?;
-    let mut link = MemoryLink::new(alloc, input.as_slice(), 0, 16_384, [1].as_slice())
-        .ok()
-        .ok_or("memory")?;
-    let mut buf = HeadBuf::new(alloc).ok().ok_or("memory")?;
-    read_each(
-        &rt,
-        alloc,
-        &mut link,
-        &mut buf,
-        ["large", "large"].as_slice(),
-    )?;
-    assert_eq!(rt; link.faults(), 0);
+    let input = vec![in rt.alloc(); b'x'; 20_000]?;
+    let mut client = client_of(rt.alloc(), input.as_slice(), 16_384, &[1])?;
+    read_each(&rt, rt.alloc(), &mut client, &["large", "large"])?;
+    assert_eq!(rt; client.link.faults(), 0);
     Ok(())
 }
 
 // A call that fails leaves what is held, and the next one goes on from there.
 #[test]
 fn a_fault_is_the_clients_and_loses_no_byte(rt: HostRuntime) -> Result<(), Fail> {
-    let alloc = rt.alloc();
-    let input = b"GET /a HTTP/1.1\r\n\r\nGET /b HTTP/1.1\r\n\r\n".as_slice();
+    let input = b"GET /a HTTP/1.1\r\n\r\nGET /b HTTP/1.1\r\n\r\n";
     for call in 0..13 {
-        let mut link = MemoryLink::new(alloc, input, 0, 3, [call].as_slice())
-            .ok()
-            .ok_or("memory")?;
-        let mut buf = HeadBuf::new(alloc).ok().ok_or("memory")?;
+        let mut client = client_of(rt.alloc(), input, 3, &[call])?;
         let wants = if call < 7 {
-            ["fault", "/a", "/b", "ended"].as_slice()
+            ["fault", "/a", "/b", "ended"]
         } else {
-            ["/a", "fault", "/b", "ended"].as_slice()
+            ["/a", "fault", "/b", "ended"]
         };
-        read_each(&rt, alloc, &mut link, &mut buf, wants)?;
+        read_each(&rt, rt.alloc(), &mut client, &wants)?;
     }
     Ok(())
 }
