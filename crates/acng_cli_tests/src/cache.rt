@@ -2,7 +2,7 @@
 use acng_base::{FixedClock, MemoryLink, MemorySource, NoMemory, Text};
 use acng_cli::{Single, run_single};
 use acng_keeper::{Keeper, MemoryKeeper};
-use acng_site::{MemoryOrigin, NoGate, Rule, Site, Untold};
+use acng_site::{MemoryOrigin, NoGate, Right, Rule, Site, Untold};
 use std::alloc::Global;
 use std::marker::Model;
 
@@ -54,6 +54,41 @@ pub struct Outcome {
     pub written: Vec<u8>,
 }
 
+// One run over a cache, which is given back as the run leaves it, with the status.
+fn once(
+    alloc: Global,
+    words: &[Text],
+    cache: Cache,
+    right: Right<Untold>,
+    conf: &mut MemorySource,
+    origin: &MemoryOrigin<Untold, NoGate>,
+    clock: &mut FixedClock,
+    link: &mut MemoryLink,
+) -> (u8, Cache) {
+    let Cache { keeper } = cache;
+    let Single { status, keeper, .. } = run_single(
+        alloc,
+        words,
+        keeper,
+        right,
+        conf,
+        &[],
+        origin,
+        clock,
+        link,
+    );
+    (status, Cache { keeper })
+}
+
+// The words, which stand between blanks.
+fn words_of(alloc: Global, words: &str) -> Result<Vec<Text>, NoMemory> {
+    let mut texts = Vec::new(alloc);
+    for word in words.split(' ') {
+        texts.push(Text::copy(alloc, word.as_bytes())?)?;
+    }
+    Ok(texts)
+}
+
 /// One run by the words, which stand between blanks. The cache is given back as the run leaves it.
 pub fn run(
     alloc: Global,
@@ -62,27 +97,22 @@ pub fn run(
     around: Around<'_>,
     request: &[u8],
 ) -> Result<(Outcome, Cache), NoMemory> {
-    let mut texts = Vec::new(alloc);
-    for word in words.split(' ') {
-        texts.push(Text::copy(alloc, word.as_bytes())?)?;
-    }
+    let words = words_of(alloc, words)?;
     let cut = around.cut.max(1);
     let (origin, right) = MemoryOrigin::<Untold, NoGate>::start(alloc, around.rules, cut, NoGate)?;
     let mut conf = MemorySource::new(alloc, around.conf.as_bytes(), cut, &[around.conf_fails])?;
     let mut clock = FixedClock::new(alloc, &[around.moment])?;
     let mut link = MemoryLink::new(alloc, request, 4096, cut, &[around.link_fails])?;
-    let Cache { keeper } = cache;
-    let Single { status, keeper, .. } = run_single(
+    let (status, cache) = once(
         alloc,
-        texts.as_slice(),
-        keeper,
+        words.as_slice(),
+        cache,
         right,
         &mut conf,
-        &[],
         &origin,
         &mut clock,
         &mut link,
     );
     let written = Vec::from_slice(alloc, link.written())?;
-    Ok((Outcome { status, written }, Cache { keeper }))
+    Ok((Outcome { status, written }, cache))
 }

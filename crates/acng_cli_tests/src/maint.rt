@@ -16,52 +16,56 @@ fn texts(alloc: Global, words: &[&[u8]]) -> Result<Vec<Text>, NoMemory> {
     Ok(all)
 }
 
+// Words, and the command that they name or what is wrong with them.
+const WORDS: &[(&[&[u8]], Result<Command, WordsFault>)] = &[
+    (&[b"serve"], Ok(Command::Serve)),
+    (&[b"once"], Ok(Command::Once)),
+    (&[b"expire"], Ok(Command::Expire)),
+    (&[b"import"], Ok(Command::Import)),
+    (&[b"report"], Ok(Command::Report)),
+    (&[b"check-conf"], Ok(Command::CheckConf)),
+    (&[b"gen", b"1"], Ok(Command::Gen(1))),
+    (&[b"gen", b"+007"], Ok(Command::Gen(7))),
+    (&[b"gen", b"20000"], Ok(Command::Gen(20_000))),
+    (&[b"gen", b"20001"], Err(WordsFault::NotRead)),
+    (&[b"gen", b"0"], Err(WordsFault::NotRead)),
+    (&[b"gen", b"ten"], Err(WordsFault::NotRead)),
+    (&[b"gen"], Err(WordsFault::NoNumber)),
+    (&[b"expire", b"3"], Err(WordsFault::StrayNumber)),
+    (&[b"Once"], Err(WordsFault::NoCommand)),
+    (&[b"once", b"\xff"], Err(WordsFault::NotRead)),
+    (&[b"--help"], Err(WordsFault::NotRead)),
+    (&[], Err(WordsFault::NotRead)),
+];
+
 #[test]
 fn words_are_read_by_their_form(rt: HostRuntime) -> Result<(), Fail> {
     let alloc = rt.alloc();
-    let rows: [(&[&[u8]], Result<Command, WordsFault>); 18] = [
-        (&[b"serve"], Ok(Command::Serve)),
-        (&[b"once"], Ok(Command::Once)),
-        (&[b"expire"], Ok(Command::Expire)),
-        (&[b"import"], Ok(Command::Import)),
-        (&[b"report"], Ok(Command::Report)),
-        (&[b"check-conf"], Ok(Command::CheckConf)),
-        (&[b"gen", b"1"], Ok(Command::Gen(1))),
-        (&[b"gen", b"+007"], Ok(Command::Gen(7))),
-        (&[b"gen", b"20000"], Ok(Command::Gen(20_000))),
-        (&[b"gen", b"20001"], Err(WordsFault::NotRead)),
-        (&[b"gen", b"0"], Err(WordsFault::NotRead)),
-        (&[b"gen", b"ten"], Err(WordsFault::NotRead)),
-        (&[b"gen"], Err(WordsFault::NoNumber)),
-        (&[b"expire", b"3"], Err(WordsFault::StrayNumber)),
-        (&[b"Once"], Err(WordsFault::NoCommand)),
-        (&[b"once", b"\xff"], Err(WordsFault::NotRead)),
-        (&[b"--help"], Err(WordsFault::NotRead)),
-        (&[], Err(WordsFault::NotRead)),
-    ];
-    for row in rows {
-        let words = texts(alloc, row.0)?;
+    for (words, command) in WORDS {
+        let words = texts(alloc, words)?;
         let read = read_words(alloc, words.as_slice()).map(|words| words.command);
-        assert_eq!(rt; read, row.1);
+        assert_eq!(rt; read, *command);
     }
     Ok(())
 }
 
+// Words, and the configuration's file and the cache's folder that they name.
+const FILES: &[(&[&[u8]], &[u8], &[u8])] = &[
+    (&[b"report"], b"acng.conf", b"cache"),
+    (&[b"report", b"--conf", b"a/b"], b"a/b", b"cache"),
+    (&[b"--cache=/c", b"report"], b"acng.conf", b"/c"),
+];
+
 #[test]
 fn files_have_defaults(rt: HostRuntime) -> Result<(), Fail> {
     let alloc = rt.alloc();
-    let rows: [(&[&[u8]], &[u8], &[u8]); 3] = [
-        (&[b"report"], b"acng.conf", b"cache"),
-        (&[b"report", b"--conf", b"a/b"], b"a/b", b"cache"),
-        (&[b"--cache=/c", b"report"], b"acng.conf", b"/c"),
-    ];
-    for row in rows {
-        let words = texts(alloc, row.0)?;
+    for (words, conf, cache) in FILES {
+        let words = texts(alloc, words)?;
         let Ok(read) = read_words(alloc, words.as_slice()) else {
             panic!(rt; "the words are read");
         };
-        assert_eq!(rt; read.conf.as_bytes(), row.1);
-        assert_eq!(rt; read.cache.as_bytes(), row.2);
+        assert_eq!(rt; read.conf.as_bytes(), *conf);
+        assert_eq!(rt; read.cache.as_bytes(), *cache);
     }
     Ok(())
 }
@@ -78,6 +82,15 @@ struct Streams {
 
 const NEVER: u64 = 1_000_000;
 
+// Streams of which nothing fails, whose bytes go in one piece.
+const WHOLE: Streams = Streams {
+    cut: 4096,
+    room: 4096,
+    failing_read: NEVER,
+    failing_write: NEVER,
+    failing_find: NEVER,
+};
+
 // Two found files, of which no index names one.
 fn found(alloc: Global, fail: u64) -> Result<MemoryFinder, NoMemory> {
     let mut names = Texts::new(alloc);
@@ -89,7 +102,43 @@ fn found(alloc: Global, fail: u64) -> Result<MemoryFinder, NoMemory> {
     MemoryFinder::new(alloc, &names, &bodies, &[fail])
 }
 
-// The status, and what was printed, over a cache that has nothing.
+// The mirrors of a group, which a configuration may name.
+fn list(alloc: Global) -> Result<ListFile, NoMemory> {
+    Ok(ListFile {
+        name: Text::copy(alloc, b"mirrors")?,
+        bytes: Text::copy(alloc, b"http://ftp.example.org/debian\n")?,
+    })
+}
+
+// The status of one run over a cache that has nothing.
+fn status_of(
+    alloc: Global,
+    words: &[Text],
+    cache: Cache,
+    source: &mut MemorySource,
+    lists: &[ListFile],
+    finder: &mut MemoryFinder,
+    sink: &mut MemorySink,
+) -> Result<u8, NoMemory> {
+    let (_origin, right) = MemoryOrigin::<Untold, NoGate>::start(alloc, &[], 1, NoGate)?;
+    let mut clock = FixedClock::new(alloc, &[1000])?;
+    Ok(
+        run_maint(
+            alloc,
+            words,
+            cache.keeper,
+            right,
+            source,
+            lists,
+            finder,
+            &mut clock,
+            sink,
+        )
+        .status,
+    )
+}
+
+// The status, and what was printed.
 fn run(
     alloc: Global,
     words: &[&[u8]],
@@ -97,132 +146,121 @@ fn run(
     streams: Streams,
 ) -> Result<(u8, Vec<u8>), NoMemory> {
     let words = texts(alloc, words)?;
-    let list = ListFile {
-        name: Text::copy(alloc, b"mirrors")?,
-        bytes: Text::copy(alloc, b"http://ftp.example.org/debian\n")?,
-    };
+    let lists = [list(alloc)?];
     let cut = streams.cut.max(1);
     let mut source = MemorySource::new(alloc, conf, cut, &[streams.failing_read])?;
     let mut sink = MemorySink::new(alloc, streams.room, cut, &[streams.failing_write])?;
     let mut finder = found(alloc, streams.failing_find)?;
-    let mut clock = FixedClock::new(alloc, &[1000])?;
-    let (_origin, right) = MemoryOrigin::<Untold, NoGate>::start(alloc, &[], cut, NoGate)?;
-    let Cache { keeper } = Cache::new(alloc, &[])?;
-    let ended = run_maint(
+    let cache = Cache::new(alloc, &[])?;
+    let status = status_of(
         alloc,
         words.as_slice(),
-        keeper,
-        right,
+        cache,
         &mut source,
-        &[list],
+        &lists,
         &mut finder,
-        &mut clock,
         &mut sink,
-    );
-    Ok((ended.status, Vec::from_slice(alloc, sink.written())?))
+    )?;
+    Ok((status, Vec::from_slice(alloc, sink.written())?))
 }
+
+// Words and a configuration, and the program's status and what is printed.
+const COMMANDS: &[(&[&[u8]], &[u8], u8, &[u8])] = &[
+    (&[b"check-conf"], b"", 0, b"ok groups 0 warnings 0\n"),
+    (
+        &[b"check-conf"],
+        b"Port: 70000\n",
+        3,
+        b"line 1: BadNumber\n",
+    ),
+    (
+        &[b"check-conf"],
+        b"# none\n\nPort 80",
+        3,
+        b"line 3: NotALine\n",
+    ),
+    (
+        &[b"check-conf"],
+        b"Foo: x\n",
+        0,
+        b"ok groups 0 warnings 1\nwarning line 1: Unused\n",
+    ),
+    (
+        &[b"check-conf"],
+        b"Remap-debrep: file:mirrors /debian ; http://deb.example.org/debian\n",
+        0,
+        b"ok groups 1 warnings 0\n",
+    ),
+    (&[b"serve"], b"Port: 70000\n", 2, b"words: Other\n"),
+    (&[b"once"], b"", 2, b"words: Other\n"),
+    (&[b"gen", b"0"], b"", 2, b"words: NotRead\n"),
+    (&[b"expire", b"3"], b"", 2, b"words: StrayNumber\n"),
+    (&[b"report"], b"", 0, b"rows 0 bytes 0\n"),
+    (&[b"expire"], b"", 0, b"done removed 0 marked 0\n"),
+    (
+        &[b"import"],
+        b"",
+        0,
+        b"unknown new.deb\nunknown odd?name?\n",
+    ),
+    (&[b"import"], b"Port: 70000\n", 3, b"line 1: BadNumber\n"),
+    (&[b"report"], b"Port: 70000\n", 3, b"line 1: BadNumber\n"),
+];
 
 #[test]
 fn commands_say_what_they_did(rt: HostRuntime) -> Result<(), Fail> {
-    let alloc = rt.alloc();
-    let check: &[&[u8]] = &[b"check-conf"];
-    let rows: [(&[&[u8]], &[u8], u8, &[u8]); 14] = [
-        (check, b"", 0, b"ok groups 0 warnings 0\n"),
-        (check, b"Port: 70000\n", 3, b"line 1: BadNumber\n"),
-        (check, b"# none\n\nPort 80", 3, b"line 3: NotALine\n"),
-        (
-            check,
-            b"Foo: x\n",
-            0,
-            b"ok groups 0 warnings 1\nwarning line 1: Unused\n",
-        ),
-        (
-            check,
-            b"Remap-debrep: file:mirrors /debian ; http://deb.example.org/debian\n",
-            0,
-            b"ok groups 1 warnings 0\n",
-        ),
-        (&[b"serve"], b"Port: 70000\n", 2, b"words: Other\n"),
-        (&[b"once"], b"", 2, b"words: Other\n"),
-        (&[b"gen", b"0"], b"", 2, b"words: NotRead\n"),
-        (&[b"expire", b"3"], b"", 2, b"words: StrayNumber\n"),
-        (&[b"report"], b"", 0, b"rows 0 bytes 0\n"),
-        (&[b"expire"], b"", 0, b"done removed 0 marked 0\n"),
-        (
-            &[b"import"],
-            b"",
-            0,
-            b"unknown new.deb\nunknown odd?name?\n",
-        ),
-        (&[b"import"], b"Port: 70000\n", 3, b"line 1: BadNumber\n"),
-        (&[b"report"], b"Port: 70000\n", 3, b"line 1: BadNumber\n"),
-    ];
-    for row in rows {
+    for (words, conf, expected, text) in COMMANDS {
         for cut in [1, 7, 4096] {
-            let streams = Streams {
-                cut,
-                room: 4096,
-                failing_read: NEVER,
-                failing_write: NEVER,
-                failing_find: NEVER,
-            };
-            let (status, printed) = run(alloc, row.0, row.1, streams)?;
-            assert_eq!(rt; status, row.2);
-            assert_eq!(rt; printed.as_slice(), row.3);
+            let (status, printed) = run(rt.alloc(), words, conf, Streams { cut, ..WHOLE })?;
+            assert_eq!(rt; status, *expected);
+            assert_eq!(rt; printed.as_slice(), *text);
         }
     }
     Ok(())
 }
 
+// The number of the read or write that fails, the room of the output, and how much is printed.
+const FAILING: &[(u64, u64, usize, usize)] = &[
+    (0, NEVER, 4096, 0),
+    (1, NEVER, 4096, 0),
+    (NEVER, 2, 4096, 14),
+    (NEVER, NEVER, 10, 10),
+    (0, 0, 0, 0),
+];
+
 #[test]
 fn a_stream_that_fails_is_said_to_fail(rt: HostRuntime) -> Result<(), Fail> {
-    let alloc = rt.alloc();
-    let whole = b"ok groups 0 warnings 0\n".as_slice();
-    // The number of the read or write that fails, the room of the output, and what is printed.
-    let rows: [(u64, u64, usize, usize); 5] = [
-        (0, NEVER, 4096, 0),
-        (1, NEVER, 4096, 0),
-        (NEVER, 2, 4096, 14),
-        (NEVER, NEVER, 10, 10),
-        (0, 0, 0, 0),
-    ];
-    for row in rows {
+    for (failing_read, failing_write, room, count) in FAILING {
         let streams = Streams {
             cut: 7,
-            room: row.2,
-            failing_read: row.0,
-            failing_write: row.1,
+            room: *room,
+            failing_read: *failing_read,
+            failing_write: *failing_write,
             failing_find: NEVER,
         };
-        let (status, printed) = run(alloc, &[b"check-conf"], b"# none", streams)?;
+        let (status, printed) = run(rt.alloc(), &[b"check-conf"], b"# none", streams)?;
         assert_eq!(rt; status, 4);
-        assert_eq!(rt; printed.as_slice(), &whole[..row.3]);
+        assert_eq!(rt; printed.as_slice(), &b"ok groups 0 warnings 0\n"[..*count]);
     }
     Ok(())
 }
 
+// Words and a configuration, and the status where the output is full.
+const FULL: &[(&[&[u8]], &[u8], u8)] = &[
+    (&[b"check-conf"], b"", 4),
+    (&[b"serve"], b"", 2),
+    (&[b"once", b"3"], b"", 2),
+    (&[b"check-conf"], b"Port: 70000\n", 3),
+    (&[b"import"], b"", 4),
+    (&[b"import"], b"Port: 70000\n", 3),
+];
+
 // Of several statuses those of the words and of the configuration go before that of a full output.
 #[test]
 fn a_full_output_hides_no_other_status(rt: HostRuntime) -> Result<(), Fail> {
-    let alloc = rt.alloc();
-    let rows: [(&[&[u8]], &[u8], u8); 6] = [
-        (&[b"check-conf"], b"", 4),
-        (&[b"serve"], b"", 2),
-        (&[b"once", b"3"], b"", 2),
-        (&[b"check-conf"], b"Port: 70000\n", 3),
-        (&[b"import"], b"", 4),
-        (&[b"import"], b"Port: 70000\n", 3),
-    ];
-    for row in rows {
-        let streams = Streams {
-            cut: 4096,
-            room: 5,
-            failing_read: NEVER,
-            failing_write: NEVER,
-            failing_find: NEVER,
-        };
-        let (status, printed) = run(alloc, row.0, row.1, streams)?;
-        assert_eq!(rt; status, row.2);
+    for (words, conf, expected) in FULL {
+        let (status, printed) = run(rt.alloc(), words, conf, Streams { room: 5, ..WHOLE })?;
+        assert_eq!(rt; status, *expected);
         assert_eq!(rt; printed.len(), 5);
     }
     Ok(())
@@ -232,11 +270,8 @@ fn a_full_output_hides_no_other_status(rt: HostRuntime) -> Result<(), Fail> {
 #[test]
 fn a_found_file_that_fails_is_said_to(rt: HostRuntime) -> Result<(), Fail> {
     let streams = Streams {
-        cut: 4096,
-        room: 4096,
-        failing_read: NEVER,
-        failing_write: NEVER,
         failing_find: 0,
+        ..WHOLE
     };
     let (status, printed) = run(rt.alloc(), &[b"import"], b"", streams)?;
     assert_eq!(rt; status, 4);
