@@ -1,5 +1,5 @@
 -- What a configuration's text says, line by line, or the first refusal.
-use Rattle.std.specs.Prelude.{ℕ, ◌+◌, Bool, true, false, not, ◌&&◌, ◌||◌, ◌==◌, nat_le, nat_lt, List, [], ◌∷◌, ◌++◌, cond, bytes_eq, chars, map, take, drop, length, position, insert, set, slice_index_or, Option, Some, None, Result, Ok, Err, MatchResult, unwrap_or, ◌≡◌, ◌≢◌}
+use Rattle.std.specs.Prelude.{ℕ, ◌+◌, Bool, true, false, not, ◌&&◌, ◌||◌, ◌==◌, nat_le, nat_lt, List, [], ◌∷◌, ◌++◌, cond, bytes_eq, chars, map, take, drop, length, position, insert, set, slice_index_or, Option, Some, None, Result, Ok, Err, MatchResult, unwrap_or, ⊤, ◌≡◌, ◌≢◌}
 use Rattle.std.specs.List.{list_any}
 use Rattle.std.specs.Option.{option_map_or}
 use Rattle.std.specs.Str.{is_utf8}
@@ -34,6 +34,10 @@ and_then (Err e) next = Err e
 -- what a call gives against the step that it makes; want of memory alone is free
 abbrev pub Gives : Step → Step → Type 0
 Gives expected result = MatchResult result (λ s. expected ≡ Ok s) (λ cause. cause ≢ NoMemory → expected ≡ Err cause)
+
+-- the same of a call that changes settings in place
+abbrev pub GivesIn : Step → Result ⊤ ConfCause → Settings → Type 0
+GivesIn expected result s = MatchResult result (λ _. expected ≡ Ok s) (λ cause. cause ≢ NoMemory → expected ≡ Err cause)
 
 -- the same, with the line of a refusal
 abbrev pub GivesAt : Result Settings ConfFault → Result Settings ConfFault → Type 0

@@ -4,7 +4,7 @@
 ghost use Rattle.std.specs.Prelude.{◌≡◌, ◌≢◌, ◌≤◌, IfOk, IfErr, Some, None, true, false};
 ghost use Rattle.acng_base.specs.Cuts.{words};
 ghost use Rattle.acng_conf.specs.Settings.{Settings as SettingsView, defaults};
-ghost use Rattle.acng_conf.specs.Readings.{Gives, setting_number, set_page, set_bind, with_setting, is_pattern as is_pattern_text};
+ghost use Rattle.acng_conf.specs.Readings.{Gives, GivesIn, setting_number, set_page, set_bind, with_setting, is_pattern as is_pattern_text};
 
 use crate::fault::{ConfCause, WarnCause, Warning};
 use crate::group::Group;
@@ -92,6 +92,21 @@ impl Settings {
         ensures step { Gives (with_setting line self value.now setting) result }
         ensures groups { IfOk result (λ settings. settings.groups ≡ self.groups) }
     {
+        self.assign(alloc, line, setting, value)?;
+        Ok(self)
+    }
+
+    // In place, so that no way out drops the settings.
+    fn assign(
+        &mut self,
+        alloc: Global,
+        line: u32,
+        setting: Setting,
+        value: &[u8],
+    ) -> Result<(), ConfCause>
+        ensures step { GivesIn (with_setting line self.old value.now setting) result self.new }
+        ensures groups { IfOk result (λ _. self.new.groups ≡ self.old.groups) }
+    {
         match setting {
             Setting::Port => self.port = number(value, 1, 65_535)? as u16,
             Setting::BindAddress => return self.set_bind(alloc, line, value),
@@ -105,32 +120,32 @@ impl Settings {
             Setting::PfilePatternEx => self.pfile_pattern = Some(pattern(alloc, value)?),
             Setting::VfilePatternEx => self.vfile_pattern = Some(pattern(alloc, value)?),
         }
-        Ok(self)
+        Ok(())
     }
 
-    fn set_page(mut self, alloc: Global, value: &[u8]) -> Result<Settings, ConfCause>
-        ensures step { Gives (set_page self value.now) result }
-        ensures groups { IfOk result (λ settings. settings.groups ≡ self.groups) }
+    fn set_page(&mut self, alloc: Global, value: &[u8]) -> Result<(), ConfCause>
+        ensures step { GivesIn (set_page self.old value.now) result self.new }
+        ensures groups { IfOk result (λ _. self.new.groups ≡ self.old.groups) }
     {
         if !is_page(value) {
             return Err(ConfCause::NotALine);
         }
         self.report_page = Text::copy(alloc, value)?;
-        Ok(self)
+        Ok(())
     }
 
     // The first word is the address; others are warned of.
-    fn set_bind(self, alloc: Global, line: u32, value: &[u8]) -> Result<Settings, ConfCause>
-        ensures step { Gives (set_bind line self (words value.now)) result }
-        ensures groups { IfOk result (λ settings. settings.groups ≡ self.groups) }
+    fn set_bind(&mut self, alloc: Global, line: u32, value: &[u8]) -> Result<(), ConfCause>
+        ensures step { GivesIn (set_bind line self.old (words value.now)) result self.new }
+        ensures groups { IfOk result (λ _. self.new.groups ≡ self.old.groups) }
     {
         let words = words(alloc, value)?;
         self.bind_words(alloc, line, words.as_slice())
     }
 
-    fn bind_words(mut self, alloc: Global, line: u32, words: &[Text]) -> Result<Settings, ConfCause>
-        ensures step { Gives (set_bind line self words.now) result }
-        ensures groups { IfOk result (λ settings. settings.groups ≡ self.groups) }
+    fn bind_words(&mut self, alloc: Global, line: u32, words: &[Text]) -> Result<(), ConfCause>
+        ensures step { GivesIn (set_bind line self.old words.now) result self.new }
+        ensures groups { IfOk result (λ _. self.new.groups ≡ self.old.groups) }
     {
         if words.is_empty() {
             return Err(ConfCause::NotALine);
@@ -139,7 +154,7 @@ impl Settings {
         if words.len() > 1 {
             self.warn(line, WarnCause::ExtraBind)?;
         }
-        Ok(self)
+        Ok(())
     }
 }
 

@@ -6,7 +6,6 @@ use Rattle.std.specs.Prelude.{All, length, IsSomeAnd}
 use mathlib.Core.Bool.{true≢false}
 use Rattle.std.specs.FinMap as map
 use Rattle.acng_base.specs.declared.clock.Moment.{Moment}
-use Rattle.acng_head.specs.declared.head.Label.{Label}
 use Rattle.acng_keeper.specs.Handles.{Handle, fresh}
 use Rattle.acng_keeper.specs.Slips.{Faults, Later, SlipRose}
 use Rattle.acng_keeper.specs.declared.slip.KeepFault.{KeepFault}
@@ -23,6 +22,7 @@ use Rattle.acng_desk.specs.House.{Parked, House, Spot, spot_at}
 use Rattle.acng_desk.specs.Keeps.{IsSound}
 use Rattle.acng_desk.specs.Tickets.{Ticketed, IsTicket, IsOld, IsOldBody, IsPart, IsPartBody, old_of, file_of}
 use Rattle.acng_desk.specs.Begins.{OldBodyAs, info_of, load_of, is_worn}
+use Rattle.acng_desk.specs.Settles.{load_in}
 use Rattle.acng_desk.proofs.Leads.{tries_there}
 use Rattle.acng_desk.proofs.Wholes.{is_old, is_old_body}
 
@@ -71,9 +71,6 @@ later_both a b c x y = record { count = omega (arith, x.count, y.count); may_fai
 
 -- ---- what the row says of the ticket
 
-abbrev pub loaded : ℕ → ℕ → Option ℕ → Option Label → Load
-loaded first fresh part was = record { first = first; fresh = fresh; part = part; was = was }
-
 ids_case : (o : Option Parked) → option_map (λ (f : PartFile). f.id) (option_map file_of o) ≡ option_map (λ (p : Parked). p.handle.number) o
 ids_case None = refl
 ids_case (Some p) = refl
@@ -82,22 +79,9 @@ labels_case : (o : Option Whole) → option_map (λ (f : OldFile). f.label) (opt
 labels_case None = refl
 labels_case (Some w) = refl
 
-pub load_is : (s : Spot) (o : Load) (part : Option PartFile) (was : Option OldFile) → part ≡ option_map file_of s.part
-    → was ≡ option_map old_of (whole_in s.row)
-    → o ≡ record {
-      first = s.next_try;
-      fresh = s.next_id;
-      part = option_map (λ (p : PartFile). p.id) part;
-      was =
-          option_map (λ (f : OldFile). f.label) was;
-    }
-    → o ≡ load_of s
-load_is s o part was part_is was_is is =
-    let parts : option_map (λ (p : PartFile). p.id) part ≡ option_map (λ (p : Parked). p.handle.number) s.part =
-    ap (option_map (λ (f : PartFile). f.id)) part_is ∙ ids_case s.part in
-    let labels : option_map (λ (f : OldFile). f.label) was ≡ option_map (λ (w : Whole). w.label) (whole_in s.row) =
-    ap (option_map (λ (f : OldFile). f.label)) was_is ∙ labels_case (whole_in s.row) in
-    is ∙ (λ i. record { first = s.next_try; fresh = s.next_id; part = parts i; was = labels i })
+pub load_is : (path : List ℕ) (origins : List (List ℕ)) (now : Moment) (s : Spot) → load_in (info_of path origins now s) ≡ load_of s
+load_is path origins now s =
+    (λ i. record { first = s.next_try; fresh = s.next_id; part = ids_case s.part i; was = labels_case (whole_in s.row) i })
 
 pub labels_are : (o : Option Whole) (was : Option OldFile) → was ≡ option_map old_of o
     → option_map (λ (f : OldFile). f.label) was ≡ option_map (λ (w : Whole). w.label) o

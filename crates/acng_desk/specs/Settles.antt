@@ -41,6 +41,10 @@ was_id i = option_map (λ (o : OldFile). o.id) i.was
 abbrev pub was_label : Info → Option Label
 was_label i = option_map (λ (o : OldFile). o.label) i.was
 
+-- what the row of its path says of a ticket
+abbrev pub load_in : Info → Load
+load_in i = record { first = i.first; fresh = i.fresh; part = part_id i; was = was_label i }
+
 -- a label of downloads, the last of them among the sixteen
 abbrev pub IsAmong : ℕ → Label → Type 0
 IsAmong first (Fetched a b) = (first ≤ b) × (b < first + 16)

@@ -29,26 +29,16 @@ use acng_rows::{Removal, RowFault, Stamp, Whole};
 use acng_site::{OriginSlip, Site};
 use std::alloc::Global;
 
-// What is left of a ticket once its tries are given up.
-pub(crate) struct Spent<F: BodyFile> {
-    pub(crate) info: Info,
-    pub(crate) part_body: Option<PartialBody<F>>,
-}
-
-pub(crate) fn spend<S: Site, F: BodyFile>(ticket: Ticket<S, F>) -> Spent<F>
-    ensures info { result.info ≡ ticket.info }
-    ensures part { option_map (parked_of F.handle) result.part_body ≡ ticket.part_body }
-    ensures keeps { IsTicket S.Site F.tells ticket }
-{
+// The tries that are left of a ticket are given up.
+pub(crate) fn spend<S: Site, F: BodyFile>(ticket: Ticket<S, F>) {
     let Ticket {
-        info,
+        info: _,
         tries,
         fresh: _,
         old_body: _,
-        part_body,
+        part_body: _,
     } = ticket;
     tries.give_up();
-    Spent { info, part_body }
 }
 
 impl<S: Site, K: Keeper, T: Joint> Desk<S, K, T> {

@@ -6,12 +6,14 @@ ghost use Rattle.std.specs.Prelude.{◌≡◌, ◌<◌, ◌≤◌, ◌-◌, ◌^
 ghost use Rattle.std.specs.Prelude.{IfOk, IfErr, OnOk, OnErr, IfSome};
 ghost use Rattle.std.specs.FinMap as map;
 ghost use Rattle.acng_keeper.specs.Slips.{SlipRose, Later};
+ghost use Rattle.acng_keeper.specs.Handles.{fresh};
 ghost use Rattle.acng_keeper.specs.Kept.{Kept, stored};
 ghost use Rattle.acng_rows.specs.declared.row.Whole.{Whole};
 ghost use Rattle.acng_rows.specs.Rows.{whole_at, out_at};
-ghost use Rattle.acng_desk.specs.House.{spot_at};
+ghost use Rattle.acng_desk.specs.House.{parked_of, spot_at};
 ghost use Rattle.acng_desk.specs.Tickets.{old_of as old_of_whole, file_of};
-ghost use Rattle.acng_desk.specs.Begins.{is_full, is_worn, led, entry_of, TicketAs, OldBodyAs, HasRested};
+ghost use Rattle.acng_desk.specs.Begins.{is_full, is_worn, led, load_of, info_of, entry_of, TicketAs, OldBodyAs, HasRested};
+ghost use Rattle.acng_desk.specs.Settles.{load_in};
 
 use crate::begin::entry;
 use crate::desk::Desk;
@@ -21,10 +23,11 @@ use crate::joint::Joint;
 use crate::part::inner;
 use crate::ticket::{Info, OldFile, PartFile, Ticket};
 use acng_base::{CachePath, Moment, NoMemory, Texts};
+use acng_grow::PartialBody;
 use acng_head::Label;
 use acng_keeper::{BodyFile, BodyId, KeepFault, Keeper, SlipOf};
 use acng_rows::Out;
-use acng_site::Site;
+use acng_site::{Site, Tries};
 use std::alloc::Global;
 
 fn copy(alloc: Global, texts: &Texts) -> Result<Texts, NoMemory>
@@ -42,15 +45,6 @@ fn label_of(was: &Option<OldFile>) -> Option<Label>
 {
     match was {
         Some(was) => Some(was.label),
-        None => None,
-    }
-}
-
-fn id_of(part: &Option<PartFile>) -> Option<u64>
-    ensures { result ≡ option_map (λ p. p.id) part.now }
-{
-    match part {
-        Some(part) => Some(part.id),
         None => None,
     }
 }
@@ -75,6 +69,28 @@ impl<S: Site, K: Keeper, T: Joint> Desk<S, K, T> {
             Some(part) => Ok(Some(part.file(alloc)?)),
             None => Ok(None),
         }
+    }
+
+    // What the ticket says that is given out now.
+    fn info(
+        &self,
+        alloc: Global,
+        path: &CachePath,
+        origins: &Texts,
+        now: Moment,
+    ) -> Result<Info, NoMemory>
+        ensures { IfOk result (λ info. info ≡ info_of path.now origins.now now (spot_at self.now.plain path.now)) }
+    {
+        Ok(Info {
+            path: path.again(alloc)?,
+            moment: now,
+            first: self.right.next(),
+            origins: copy(alloc, origins)?,
+            redir_max: self.rules.redir_max(),
+            fresh: self.keeper.next_id(),
+            was: self.old_file(path),
+            part: self.part_file(alloc, path)?,
+        })
     }
 
     // A handle of the whole body of a path.
@@ -104,23 +120,68 @@ impl<S: Site, K: Keeper, T: Joint> Desk<S, K, T> {
     }
 }
 
+// What the row of a path says of a ticket.
+fn out<T>(info: &Info, token: T) -> Out<T>
+    ensures { result ≡ load_in info.now }
+{
+    Out {
+        first: info.first,
+        fresh: info.fresh,
+        part: info.part_id(),
+        was: label_of(&info.was),
+        token,
+    }
+}
+
+// What a ticket takes out of the desk.
+struct Given<S: Site, F: BodyFile> {
+    tries: Tries<S>,
+    fresh: F,
+    part_body: Option<PartialBody<F>>,
+}
+
 impl<S: Site, K: Keeper, T: Joint> Desk<S, K, T> {
-    // What the row of a path says of a ticket that is given out now.
-    fn out(&self, was: Option<Label>, part: Option<u64>, token: T) -> Out<T>
-        ensures { result ≡ record {
-          first = self.now.plain.next_try;
-          fresh = self.now.plain.next_id;
-          part = part;
-          was = was;
-        } }
+    // The row says that the ticket is out, which takes a new body, the partial body and sixteen tries.
+    fn give_out(
+        &mut self,
+        alloc: Global,
+        path: &CachePath,
+        info: &Info,
+        token: T,
+    ) -> Result<Given<S, K::Body>, KeepFault<SlipOf<K>>>
+        requires load { load_in info.now ≡ load_of (spot_at self.old.plain path.now) }
+        requires room { is_full (spot_at self.old.plain path.now) ≡ false }
+        requires numbers { is_worn (spot_at self.old.plain path.now) ≡ false }
+        ensures tries { IfOk result (λ given. (given.tries.next ≡ self.old.plain.next_try) × (given.tries.left ≡ 16)) }
+        ensures body { IfOk result (λ given. K.Body.handle given.fresh ≡ fresh self.old.plain.next_id) }
+        ensures part { IfOk result (λ given. option_map (parked_of K.Body.handle) given.part_body ≡ map.get self.old.plain.parts path.now) }
+        ensures led { OnOk result (self.new.plain ≡ led path.now self.old.plain) }
+        ensures same { OnErr result (self.new.plain ≡ self.old.plain) }
+        ensures rests { K.tells ≡ true → HasRested self.old.kept self.new.kept }
+        ensures later { Later self.old.faults self.new.faults }
+        ensures cause { IfErr result (λ e. SlipRose e self.old.faults self.new.faults) }
     {
-        Out {
-            first: self.right.next(),
-            fresh: self.keeper.next_id(),
-            part,
-            was,
-            token,
-        }
+        let Ok(out) = Box::new(alloc, out(info, token)) else {
+            return Err(KeepFault::NoMemory);
+        };
+        let Ok(made) = self.rows.reserve(alloc, path) else {
+            return Err(KeepFault::NoMemory);
+        };
+        let (_, fresh) = match self.keeper.create(alloc) {
+            Ok(body) => body,
+            Err(fault) => {
+                self.rows.release(path, made);
+                return Err(fault);
+            }
+        };
+        self.rows.set_out(path, Some(out));
+        let part_body = inner(self.parts.remove(path));
+        let tries = self.right.draw_sixteen();
+        Ok(Given {
+            tries,
+            fresh,
+            part_body,
+        })
     }
 
     // Gives the path's ticket out.
@@ -151,47 +212,17 @@ impl<S: Site, K: Keeper, T: Joint> Desk<S, K, T> {
         ensures cause { IfErr result (λ e. SlipRose e self.old.faults self.new.faults) }
     {
         self.keeps();
-        let Ok(mine) = path.again(alloc) else {
+        let Ok(info) = self.info(alloc, path, origins, now) else {
             return Err(KeepFault::NoMemory);
         };
-        let Ok(origins) = copy(alloc, origins) else {
-            return Err(KeepFault::NoMemory);
-        };
-        let was = self.old_file(path);
-        let Ok(part) = self.part_file(alloc, path) else {
-            return Err(KeepFault::NoMemory);
-        };
-        let old_body = self.fetch_old(alloc, path, &was)?;
-        let label = label_of(&was);
-        let out = self.out(label, id_of(&part), token);
-        let Ok(out) = Box::new(alloc, out) else {
-            return Err(KeepFault::NoMemory);
-        };
-        let Ok(made) = self.rows.reserve(alloc, path) else {
-            return Err(KeepFault::NoMemory);
-        };
-        let (fresh_id, fresh) = match self.keeper.create(alloc) {
-            Ok(body) => body,
-            Err(fault) => {
-                self.rows.release(path, made);
-                return Err(fault);
-            }
-        };
-        self.rows.set_out(path, Some(out));
-        let part_body = inner(self.parts.remove(path));
-        let first = self.right.next();
-        let tries = self.right.draw_sixteen();
-        let entry = entry(own, first, label, false, now);
-        let info = Info {
-            path: mine,
-            moment: now,
-            first,
-            origins,
-            redir_max: self.rules.redir_max(),
-            fresh: fresh_id.0,
-            was,
-            part,
-        };
+        let old_body = self.fetch_old(alloc, path, &info.was)?;
+        let given = self.give_out(alloc, path, &info, token)?;
+        let Given {
+            tries,
+            fresh,
+            part_body,
+        } = given;
+        let entry = entry(own, info.first, label_of(&info.was), false, now);
         let ticket = Ticket::new(info, tries, fresh, old_body, part_body);
         Ok((ticket, entry))
     }

@@ -1,221 +1,33 @@
-use Rattle.std.proofs.Common.{◌≡◌, ℕ, ◌+◌, ap, subst, sym, ◌∙◌, false, Some}
+use Rattle.std.proofs.Common.{◌≡◌, ap, subst, sym, ◌∙◌, Some}
 use Rattle.std.specs.Option.{option_map}
 use Rattle.std.specs.FinMap as map
 use Rattle.acng_keeper.specs.Handles.{fresh}
-use Rattle.acng_keeper.specs.Kept.{Kept, stored}
-use Rattle.acng_rows.specs.Rows.{Rows, Load, released, with_out, whole_at}
-use Rattle.acng_desk.specs.declared.ticket.PartFile.{PartFile}
-use Rattle.acng_desk.specs.House.{House, Plain, Parts, parked_of, spot_at}
-use Rattle.acng_desk.specs.Keeps.{IsSound}
-use Rattle.acng_desk.specs.Tickets.{Ticketed, IsTicket, old_of, file_of}
-use Rattle.acng_desk.specs.Begins.{is_full, led, load_of}
-use Rattle.acng_desk.proofs.Leads.{led_sound}
-use Rattle.acng_desk.proofs.LeadSteps.{has_reserved, released_reserved, out_reserved, loaded, load_is, given, given_keeps}
-use Rattle.acng_desk.proofs.Stores.{sound_next}
+use Rattle.acng_desk.specs.House.{Plain, parked_of}
+use Rattle.acng_desk.specs.Tickets.{Ticketed, IsTicket}
+use Rattle.acng_desk.proofs.LeadSteps.{given, given_keeps}
 use Rattle.acng_desk.proofs.desk.Desk.lead.Goals as goal
-
-pub invariant_of-self-in-Err : goal.invariant_of-self-in-Err
-invariant_of-self-in-Err g c =
-    let path = c.args.path.now in
-    let inside : House = record {
-      plain = record {
-        rows = c.self.inside.rows;
-        parts = c.self.inside.parts;
-        next_try = c.self.inside.right.next;
-        next_id = g.K.Keeper.next c.self.inside.keeper;
-        limit = c.self.inside.limit;
-        rules = c.self.inside.rules;
-      };
-      kept = g.K.Keeper.kept c.self.inside.keeper;
-      faults = g.K.Keeper.faults c.self.inside.keeper;
-    } in
-    let k = g.K.Keeper.kept c.create.new.self in
-    let f = g.K.Keeper.faults c.create.new.self in
-    let n = g.K.Keeper.next c.create.new.self in
-    let rows : c.release.new.self ≡ inside.plain.rows = c.release.ensures
-    ∙ ap (λ m. released c.in-Ok-reserve.made m path) c.in-Ok-reserve.ensures.rows
-    ∙ released_reserved inside.plain.rows path c.in-Ok-reserve.made c.in-Ok-reserve.ensures.made in
-    let P : Rows → Type 0 = λ m. IsSound g.S.Site g.K.Keeper.tells (record {
-      plain = record inside.plain { rows = m; next_id = n };
-      kept =
-          k;
-      faults = f;
-    }) in
-    subst P (sym rows) (sound_next g.S.Site g.K.Keeper.tells inside k f n c.in-Err.ensures.same_next
-    (λ told. ap stored c.in-Err.ensures.same) (λ told. ap (λ (x : Kept). x.loose) c.in-Err.ensures.same) c.self.invariant)
-
-pub returns-in-Err-clause-same : goal.returns-in-Err-clause-same
-returns-in-Err-clause-same g c =
-    let path = c.args.path.now in
-    let inside : House = record {
-      plain = record {
-        rows = c.self.inside.rows;
-        parts = c.self.inside.parts;
-        next_try = c.self.inside.right.next;
-        next_id = g.K.Keeper.next c.self.inside.keeper;
-        limit = c.self.inside.limit;
-        rules = c.self.inside.rules;
-      };
-      kept = g.K.Keeper.kept c.self.inside.keeper;
-      faults = g.K.Keeper.faults c.self.inside.keeper;
-    } in
-    let n = g.K.Keeper.next c.create.new.self in
-    let rows : c.release.new.self ≡ inside.plain.rows = c.release.ensures
-    ∙ ap (λ m. released c.in-Ok-reserve.made m path) c.in-Ok-reserve.ensures.rows
-    ∙ released_reserved inside.plain.rows path c.in-Ok-reserve.made c.in-Ok-reserve.ensures.made in
-    let Q : Rows → ℕ → Plain = λ m i. record inside.plain { rows = m; next_id = i } in
-    ap (λ m. Q m n) rows ∙ ap (Q inside.plain.rows) c.in-Err.ensures.same_next
-    ∙ ap (λ (h : House). h.plain) c.self.view_is ∙ c.in_ok-old_body.ensures.plain
-
-pub set_out-requires : goal.set_out-requires
-set_out-requires g c = ap (λ m. map.contains_key m c.args.path.now) c.in-Ok-reserve.ensures.rows
-    ∙ has_reserved c.self.inside.rows c.args.path.now c.in-Ok-reserve.made c.in-Ok-reserve.ensures.made
 
 pub new-ticket-requires-clause-keeps : goal.new-ticket-requires-clause-keeps
 new-ticket-requires-clause-keeps g c =
     let path = c.args.path.now in
     let h = c.args.self.now in
-    let inside : House = record {
-      plain = record {
-        rows = c.self.inside.rows;
-        parts = c.self.inside.parts;
-        next_try = c.self.inside.right.next;
-        next_id = g.K.Keeper.next c.self.inside.keeper;
-        limit = c.self.inside.limit;
-        rules = c.self.inside.rules;
-      };
-      kept = g.K.Keeper.kept c.self.inside.keeper;
-      faults = g.K.Keeper.faults c.self.inside.keeper;
-    } in
-    let same : inside.plain ≡ c.args.self.now.plain = ap (λ (h : House). h.plain) c.self.view_is ∙ c.in_ok-old_body.ensures.plain in
-    let next_try : c.next-first.result ≡ h.plain.next_try = c.next-first.ensures ∙ ap (λ (p : Plain). p.next_try) same in
-    let redir : c.redir_max.result ≡ h.plain.rules.redir_max = c.redir_max.ensures ∙ ap (λ (p : Plain). p.rules.redir_max) same in
-    let id : c.in-Ok-create.body.0.0 ≡ h.plain.next_id = c.in-Ok-create.ensures.id ∙ ap (λ (p : Plain). p.next_id) same in
-    let new : g.K.Body.BodyFile.handle c.in-Ok-create.body.1 ≡ fresh h.plain.next_id = c.in-Ok-create.ensures.body
-    ∙ ap (λ (p : Plain). fresh p.next_id) same in
-    let part : option_map (parked_of g.K.Body.BodyFile.handle) c.inner-part_body.result ≡ map.get h.plain.parts path =
-    c.inner-part_body.ensures ∙ c.remove.ensures.value ∙ ap (λ (p : Plain). map.get p.parts path) same in
+    let given_ = c.in_ok-given.given in
     let old = option_map g.K.Body.BodyFile.handle c.in_ok-old_body.old_body in
+    let plain : c.fetch_old.new.self.plain ≡ h.plain = c.in_ok-old_body.ensures.plain in
+    let new : g.K.Body.BodyFile.handle given_.fresh ≡ fresh h.plain.next_id = c.in_ok-given.ensures.body
+    ∙ ap (λ (p : Plain). fresh p.next_id) plain in
+    let part : option_map (parked_of g.K.Body.BodyFile.handle) given_.part_body ≡ map.get h.plain.parts path =
+    c.in_ok-given.ensures.part ∙ ap (λ (p : Plain). map.get p.parts path) plain in
     let keeps = given_keeps g.S.Site g.K.Keeper.tells g.K.Body.BodyFile.tells g.met.K.Keeper.body_tells h path c.keeps.ensures
     c.args.origins.now c.args.now old c.requires.origins c.requires.serve c.requires.numbers c.in_ok-old_body.ensures.body in
     let made : Ticketed = record {
-      info = record {
-        path = c.in-Ok.mine;
-        moment = c.args.now;
-        first = c.next-first.result;
-        origins = c.in-Ok-copy.origins;
-        redir_max = c.redir_max.result;
-        fresh = c.in-Ok-create.body.0.0;
-        was = c.old_file-was.result;
-        part = c.in-Ok-part_file.part;
-      };
+      info = c.in-Ok.info;
       left = 16;
-      fresh = Some (g.K.Body.BodyFile.handle c.in-Ok-create.body.1);
+      fresh = Some (g.K.Body.BodyFile.handle given_.fresh);
       old_body = old;
-      part_body = option_map (parked_of g.K.Body.BodyFile.handle) c.inner-part_body.result;
+      part_body = option_map (parked_of g.K.Body.BodyFile.handle) given_.part_body;
     } in
     let is : ◌≡◌ {A = Ticketed} made (given g.S.Site g.K.Keeper.tells g.K.Body.BodyFile.tells g.met.K.Keeper.body_tells h path
     c.keeps.ensures c.args.origins.now c.args.now old) =
-    (λ i. record {
-      info = record {
-        path = c.in-Ok.ensures i;
-        moment = c.args.now;
-        first = next_try i;
-        origins = c.in-Ok-copy.ensures i;
-        redir_max = redir i;
-        fresh = id i;
-        was = c.old_file-was.ensures i;
-        part = c.in-Ok-part_file.ensures i;
-      };
-      left = 16;
-      fresh = Some (new i);
-      old_body = old;
-      part_body = part i;
-    }) in
+    (λ i. record { info = c.in-Ok.ensures i; left = 16; fresh = Some (new i); old_body = old; part_body = part i }) in
     subst (IsTicket g.S.Site g.K.Body.BodyFile.tells) (sym is) keeps
-
-pub invariant_of-self-2 : goal.invariant_of-self-2
-invariant_of-self-2 g c =
-    let path = c.args.path.now in
-    let inside : House = record {
-      plain = record {
-        rows = c.self.inside.rows;
-        parts = c.self.inside.parts;
-        next_try = c.self.inside.right.next;
-        next_id = g.K.Keeper.next c.self.inside.keeper;
-        limit = c.self.inside.limit;
-        rules = c.self.inside.rules;
-      };
-      kept = g.K.Keeper.kept c.self.inside.keeper;
-      faults = g.K.Keeper.faults c.self.inside.keeper;
-    } in
-    let k = g.K.Keeper.kept c.create.new.self in
-    let f = g.K.Keeper.faults c.create.new.self in
-    let n = g.K.Keeper.next c.create.new.self in
-    let t = c.draw_sixteen-tries.new.self.next in
-    let same : inside.plain ≡ c.args.self.now.plain = ap (λ (h : House). h.plain) c.self.view_is ∙ c.in_ok-old_body.ensures.plain in
-    let load : c.in-Ok-new.out.value ≡ load_of (spot_at inside.plain path) =
-    load_is (spot_at inside.plain path) c.in-Ok-new.out.value c.in-Ok-part_file.part c.old_file-was.result
-    (c.in-Ok-part_file.ensures ∙ ap (λ (p : Plain). option_map file_of (map.get p.parts path)) (sym same))
-    (c.old_file-was.ensures ∙ ap (λ (p : Plain). option_map old_of (whole_at p.rows path)) (sym same))
-    (let e : ◌≡◌ {A = Load} c.in-Ok-new.out.value (loaded c.fetch_old.new.self.plain.next_try c.fetch_old.new.self.plain.next_id
-    c.id_of.result c.label_of-label.result)
-    = c.in-Ok-new.ensures.ok ∙ c.out-out.ensures in
-    e ∙ ap (λ (h : House). loaded h.plain.next_try h.plain.next_id c.id_of.result c.label_of-label.result) (sym c.self.view_is)
-    ∙ ap (λ x. loaded inside.plain.next_try inside.plain.next_id x c.label_of-label.result) c.id_of.ensures
-    ∙ ap (loaded inside.plain.next_try inside.plain.next_id (option_map (λ (p : PartFile). p.id) c.in-Ok-part_file.part))
-    c.label_of-label.ensures) in
-    let rows : c.set_out.new.self ≡ (led path inside.plain).rows = c.set_out.ensures
-    ∙ ap (λ (m : Rows). with_out m path (Some c.in-Ok-new.out.value)) c.in-Ok-reserve.ensures.rows
-    ∙ out_reserved inside.plain.rows path c.in-Ok-reserve.made c.in-Ok-reserve.ensures.made c.in-Ok-new.out.value
-    ∙ ap (λ (o : Load). map.insert inside.plain.rows path (record { whole = whole_at inside.plain.rows path; out = Some o })) load in
-    let P : Rows → Parts → ℕ → ℕ → Type 0 = λ m q x y. IsSound g.S.Site g.K.Keeper.tells
-    (record { plain = record inside.plain { rows = m; parts = q; next_try = x; next_id = y }; kept = k; faults = f }) in
-    let sound = led_sound g.S.Site g.K.Keeper.tells inside path k f (subst (λ (p : Plain). is_full (spot_at p path) ≡ false) (sym same)
-    c.requires.room)
-    (λ told. c.in-Ok-create.ensures.loose told) (λ told. (g.met.K.Keeper.sound c.self.inside.keeper told).heads) c.self.invariant in
-    subst (λ m. P m c.remove.new.self t n) (sym rows)
-    (subst (λ q. P (led path inside.plain).rows q t n) (sym c.remove.ensures.removed)
-    (subst (λ x. P (led path inside.plain).rows (led path inside.plain).parts x n) (sym c.draw_sixteen-tries.ensures.right)
-    (subst (λ y. P (led path inside.plain).rows (led path inside.plain).parts (inside.plain.next_try + 16) y)
-    (sym c.in-Ok-create.ensures.next) sound)))
-
-pub returns-clause-led : goal.returns-clause-led
-returns-clause-led g c =
-    let path = c.args.path.now in
-    let inside : House = record {
-      plain = record {
-        rows = c.self.inside.rows;
-        parts = c.self.inside.parts;
-        next_try = c.self.inside.right.next;
-        next_id = g.K.Keeper.next c.self.inside.keeper;
-        limit = c.self.inside.limit;
-        rules = c.self.inside.rules;
-      };
-      kept = g.K.Keeper.kept c.self.inside.keeper;
-      faults = g.K.Keeper.faults c.self.inside.keeper;
-    } in
-    let n = g.K.Keeper.next c.create.new.self in
-    let t = c.draw_sixteen-tries.new.self.next in
-    let same : inside.plain ≡ c.args.self.now.plain = ap (λ (h : House). h.plain) c.self.view_is ∙ c.in_ok-old_body.ensures.plain in
-    let load : c.in-Ok-new.out.value ≡ load_of (spot_at inside.plain path) =
-    load_is (spot_at inside.plain path) c.in-Ok-new.out.value c.in-Ok-part_file.part c.old_file-was.result
-    (c.in-Ok-part_file.ensures ∙ ap (λ (p : Plain). option_map file_of (map.get p.parts path)) (sym same))
-    (c.old_file-was.ensures ∙ ap (λ (p : Plain). option_map old_of (whole_at p.rows path)) (sym same))
-    (let e : ◌≡◌ {A = Load} c.in-Ok-new.out.value (loaded c.fetch_old.new.self.plain.next_try c.fetch_old.new.self.plain.next_id
-    c.id_of.result c.label_of-label.result)
-    = c.in-Ok-new.ensures.ok ∙ c.out-out.ensures in
-    e ∙ ap (λ (h : House). loaded h.plain.next_try h.plain.next_id c.id_of.result c.label_of-label.result) (sym c.self.view_is)
-    ∙ ap (λ x. loaded inside.plain.next_try inside.plain.next_id x c.label_of-label.result) c.id_of.ensures
-    ∙ ap (loaded inside.plain.next_try inside.plain.next_id (option_map (λ (p : PartFile). p.id) c.in-Ok-part_file.part))
-    c.label_of-label.ensures) in
-    let rows : c.set_out.new.self ≡ (led path inside.plain).rows = c.set_out.ensures
-    ∙ ap (λ (m : Rows). with_out m path (Some c.in-Ok-new.out.value)) c.in-Ok-reserve.ensures.rows
-    ∙ out_reserved inside.plain.rows path c.in-Ok-reserve.made c.in-Ok-reserve.ensures.made c.in-Ok-new.out.value
-    ∙ ap (λ (o : Load). map.insert inside.plain.rows path (record { whole = whole_at inside.plain.rows path; out = Some o })) load in
-    let Q : Rows → Parts → ℕ → ℕ → Plain = λ m q x y. record inside.plain { rows = m; parts = q; next_try = x; next_id = y } in
-    ap (λ m. Q m c.remove.new.self t n) rows
-    ∙ ap (λ q. Q (led path inside.plain).rows q t n) c.remove.ensures.removed
-    ∙ ap (λ x. Q (led path inside.plain).rows (led path inside.plain).parts x n) c.draw_sixteen-tries.ensures.right
-    ∙ ap (Q (led path inside.plain).rows (led path inside.plain).parts (inside.plain.next_try + 16)) c.in-Ok-create.ensures.next
-    ∙ ap (led path) same

@@ -10,6 +10,7 @@ use Rattle.acng_rows.specs.Rows.{whole_at, whole_in}
 use Rattle.acng_desk.specs.declared.ending.Ending.TheVariants as ending
 use Rattle.acng_desk.specs.declared.ticket.Info.{Info}
 use Rattle.acng_desk.specs.House.{Parked, parked_of, spot_at}
+use Rattle.acng_desk.specs.Tickets.{Ticketed}
 use Rattle.acng_desk.specs.Settles.{IsAmong}
 use Rattle.acng_desk.proofs.Changes.{later}
 use Rattle.acng_desk.proofs.Endings.{end_out, keep_stage, same_stage, park_stage, back_stage, park_room, room_is, same_held, ticket_part}
@@ -17,7 +18,7 @@ use Rattle.acng_desk.proofs.Endings.{ticket_below, part_number, file_number}
 use Rattle.acng_desk.proofs.Owns.{own_apart, out_below}
 use Rattle.acng_desk.specs.Commands.{Settle, step}
 use Rattle.acng_desk.proofs.Stopped.{rest_stops, any_stops}
-use Rattle.acng_desk.proofs.desk.Desk.settle.Goals as goal
+use Rattle.acng_desk.proofs.desk.Desk.come_in.Goals as goal
 
 whole_same : stage.Whole ≡ stage.Same → ⊥
 whole_same q = cc
@@ -28,7 +29,7 @@ cut_same q = cc
 pub keep_load-requires-clause-stage : goal.keep_load-requires-clause-stage
 keep_load-requires-clause-stage g c =
     let plain = c.args.self.now.plain in
-    let t = c.args.ticket in
+    let t = c.args.ticket.now in
     let body = c.args.body.now in
     let s = spot_at plain body.path in
     let o = end_out s t body ending.Keep (sym c.ending-ending.ensures ∙ c.in-Keep.is) (λ q. cc) in
@@ -37,40 +38,39 @@ keep_load-requires-clause-stage g c =
 pub keep_load-requires-clause-label : goal.keep_load-requires-clause-label
 keep_load-requires-clause-label g c =
     let plain = c.args.self.now.plain in
-    let t = c.args.ticket in
+    let t = c.args.ticket.now in
     let body = c.args.body.now in
     let s = spot_at plain body.path in
     let o = end_out s t body ending.Keep (sym c.ending-ending.ensures ∙ c.in-Keep.is) (λ q. cc) in
     let is = keep_stage s t body body.seen.stage o.1 in
     let P : Info → Type 0 = λ i. IfSome body.seen.label (IsAmong i.first) in
-    subst P (sym c.spend-info.ensures.info) (c.requires.ends.label (λ q. whole_same (sym is ∙ q)))
+    subst P (sym c.info.ensures) (c.requires.ends.label (λ q. whole_same (sym is ∙ q)))
 
 pub same_load-requires-clause-held : goal.same_load-requires-clause-held
 same_load-requires-clause-held g c =
     let plain = c.args.self.now.plain in
-    let t = c.args.ticket in
+    let t = c.args.ticket.now in
     let body = c.args.body.now in
     let s = spot_at plain body.path in
     let o = end_out s t body ending.Same (sym c.ending-ending.ensures ∙ c.in-Same.is) (λ q. cc) in
     let is = same_stage s t body body.seen.stage o.1 in
     let held = same_held (whole_in s.row) t.info (number_of body) is.1 (c.requires.ends.file_same is.0)
     (file_number body.file (c.keeps-3.ensures.file.same is.0)) in
-    subst (λ q. is_some (whole_at plain.rows q) ≡ true) (c.requires.ends.path ∙ sym (ap (λ (i : Info). i.path) c.spend-info.ensures.info))
-    held
+    subst (λ q. is_some (whole_at plain.rows q) ≡ true) (c.requires.ends.path ∙ sym (ap (λ (i : Info). i.path) c.info-in-Same.ensures)) held
 
 pub unreachable-requires : goal.unreachable-requires
 unreachable-requires g c =
     let plain = c.args.self.now.plain in
-    let t = c.args.ticket in
+    let t = c.args.ticket.now in
     let body = c.args.body.now in
     let s = spot_at plain body.path in
     let o = end_out s t body ending.Same (sym c.ending-ending.ensures ∙ c.in-Same.is) (λ q. cc) in
     let is = same_stage s t body body.seen.stage o.1 in
     let held = same_held (whole_in s.row) t.info (number_of body) is.1 (c.requires.ends.file_same is.0)
     (file_number body.file (c.keeps-3.ensures.file.same is.0)) in
-    let path = c.spend-info.result.info.path in
+    let path = c.info-in-Same.result.now.path in
     let there = subst (λ q. is_some (whole_at plain.rows q) ≡ true) (c.requires.ends.path
-    ∙ sym (ap (λ (i : Info). i.path) c.spend-info.ensures.info)) held in
+    ∙ sym (ap (λ (i : Info). i.path) c.info-in-Same.ensures)) held in
     let none : whole_at plain.rows path ≡ None =
     subst (λ (f : RowFault _). RowRose f (whole_at plain.rows path) c.args.self.now.faults c.same_load.new.self.faults)
     c.in-Err-NotHeld.field-0-is c.in-Err-NotHeld.ensures.cause in
@@ -79,7 +79,7 @@ unreachable-requires g c =
 pub park_load-requires-clause-cut : goal.park_load-requires-clause-cut
 park_load-requires-clause-cut g c =
     let plain = c.args.self.now.plain in
-    let t = c.args.ticket in
+    let t = c.args.ticket.now in
     let body = c.args.body.now in
     let s = spot_at plain body.path in
     let o = end_out s t body ending.Park (sym c.ending-ending.ensures ∙ c.in-Park.is) (λ q. cc) in
@@ -88,18 +88,18 @@ park_load-requires-clause-cut g c =
 pub park_load-requires-clause-label : goal.park_load-requires-clause-label
 park_load-requires-clause-label g c =
     let plain = c.args.self.now.plain in
-    let t = c.args.ticket in
+    let t = c.args.ticket.now in
     let body = c.args.body.now in
     let s = spot_at plain body.path in
     let o = end_out s t body ending.Park (sym c.ending-ending.ensures ∙ c.in-Park.is) (λ q. cc) in
     let is = (park_stage s t body body.seen.stage o.1).0 in
     let P : Info → Type 0 = λ i. IfSome body.seen.label (IsAmong i.first) in
-    subst P (sym c.spend-info.ensures.info) (c.requires.ends.label (λ q. cut_same (sym is ∙ q)))
+    subst P (sym c.info-in-Park.ensures) (c.requires.ends.label (λ q. cut_same (sym is ∙ q)))
 
 pub park_load-requires-clause-room : goal.park_load-requires-clause-room
 park_load-requires-clause-room g c =
     let plain = c.args.self.now.plain in
-    let t = c.args.ticket in
+    let t = c.args.ticket.now in
     let body = c.args.body.now in
     let s = spot_at plain body.path in
     let o = end_out s t body ending.Park (sym c.ending-ending.ensures ∙ c.in-Park.is) (λ q. cc) in
@@ -108,30 +108,30 @@ park_load-requires-clause-room g c =
 pub unreachable-requires-in_default : goal.unreachable-requires-in_default
 unreachable-requires-in_default g c =
     let plain = c.args.self.now.plain in
-    let t = c.args.ticket in
+    let t = c.args.ticket.now in
     let body = c.args.body.now in
     let s = spot_at plain body.path in
     let o = end_out s t body ending.Back (sym c.ending-ending.ensures ∙ c.in-Back.is) (λ q. cc) in
     let some : is_some t.part_body ≡ true = (back_stage s t body body.seen.stage o.1).1 in
-    true≢false (sym some ∙ sym (ap is_some c.spend-info.ensures.part)
+    true≢false (sym some ∙ sym (ap is_some c.take_partial.ensures.given)
     ∙ ap (λ q. is_some (option_map (parked_of g.K.Body.BodyFile.handle) q)) c.in_default.is)
 
 pub rest_load-requires-clause-below : goal.rest_load-requires-clause-below
 rest_load-requires-clause-below g c =
     let plain = c.args.self.now.plain in
-    let t = c.args.ticket in
+    let t = c.args.ticket.now in
     let body = c.args.body.now in
     let s = spot_at plain body.path in
     let o = end_out s t body ending.Back (sym c.ending-ending.ensures ∙ c.in-Back.is) (λ q. cc) in
     let b : Parked = parked_of g.K.Body.BodyFile.handle c.in-Some.part in
-    let at : t.part_body ≡ Some b = sym c.spend-info.ensures.part ∙ ap (option_map (parked_of g.K.Body.BodyFile.handle)) c.in-Some.is in
+    let at : t.part_body ≡ Some b = sym c.take_partial.ensures.given ∙ ap (option_map (parked_of g.K.Body.BodyFile.handle)) c.in-Some.is in
     let more : t.info.first + 16 ≤ plain.next_try = out_below g.S.Site g.K.Keeper.tells plain body.path t.info c.keeps.ensures.plain o.0 in
     later t.info.first plain.next_try b.label (omega (arith, more)) (ticket_below g.S.Site g.K.Body.BodyFile.tells t b c.keeps-2.ensures at)
 
 pub rest_load-requires-clause-room : goal.rest_load-requires-clause-room
 rest_load-requires-clause-room g c =
     let plain = c.args.self.now.plain in
-    let t = c.args.ticket in
+    let t = c.args.ticket.now in
     let body = c.args.body.now in
     let s = spot_at plain body.path in
     let o = end_out s t body ending.Back (sym c.ending-ending.ensures ∙ c.in-Back.is) (λ q. cc) in
@@ -140,65 +140,65 @@ rest_load-requires-clause-room g c =
 pub rest_load-requires-clause-other : goal.rest_load-requires-clause-other
 rest_load-requires-clause-other g c =
     let plain = c.args.self.now.plain in
-    let t = c.args.ticket in
+    let t = c.args.ticket.now in
     let body = c.args.body.now in
     let s = spot_at plain body.path in
     let o = end_out s t body ending.Back (sym c.ending-ending.ensures ∙ c.in-Back.is) (λ q. cc) in
     let b : Parked = parked_of g.K.Body.BodyFile.handle c.in-Some.part in
-    let at : t.part_body ≡ Some b = sym c.spend-info.ensures.part ∙ ap (option_map (parked_of g.K.Body.BodyFile.handle)) c.in-Some.is in
+    let at : t.part_body ≡ Some b = sym c.take_partial.ensures.given ∙ ap (option_map (parked_of g.K.Body.BodyFile.handle)) c.in-Some.is in
     let number = part_number t.info b (ticket_part g.S.Site g.K.Body.BodyFile.tells t b c.keeps-2.ensures at) in (
       inl refl,
       λ q. own_apart g.S.Site g.K.Keeper.tells plain body.path t.info b.handle.number c.keeps.ensures.plain o.0 number
-          (sym q ∙ ap (λ (i : Info). i.fresh) c.spend-info.ensures.info),
+          (sym q ∙ ap (λ (i : Info). i.fresh) c.info-info.ensures ∙ ap (λ (x : Ticketed). x.info.fresh) c.take_partial.ensures.same),
     )
 
 -- ---- stops
 
 pub returns-in-Unknown-clause-stops : goal.returns-in-Unknown-clause-stops
 returns-in-Unknown-clause-stops g c = λ told.
-    rest_stops g.S.Site (step (Settle c.args.ticket c.args.body.now) c.args.self.now.plain).rows c.args.self.now c.args.self.now refl
+    rest_stops g.S.Site (step (Settle c.args.ticket.now c.args.body.now) c.args.self.now.plain).rows c.args.self.now c.args.self.now refl
 
 pub returns-in-Ok-park_load-clause-stops : goal.returns-in-Ok-park_load-clause-stops
 returns-in-Ok-park_load-clause-stops g c = λ told.
-    any_stops g.S.Site (step (Settle c.args.ticket c.args.body.now) c.args.self.now.plain).rows c.args.self.now c.park_load.new.self
+    any_stops g.S.Site (step (Settle c.args.ticket.now c.args.body.now) c.args.self.now.plain).rows c.args.self.now c.park_load.new.self
     (c.park_load.ensures.files told).0
 
 pub returns-in-Err-Slip-park_load-clause-stops : goal.returns-in-Err-Slip-park_load-clause-stops
 returns-in-Err-Slip-park_load-clause-stops g c = λ told.
-    any_stops g.S.Site (step (Settle c.args.ticket c.args.body.now) c.args.self.now.plain).rows c.args.self.now c.park_load.new.self
+    any_stops g.S.Site (step (Settle c.args.ticket.now c.args.body.now) c.args.self.now.plain).rows c.args.self.now c.park_load.new.self
     (c.park_load.ensures.files told).0
 
-pub returns-in-Park-clause-stops : goal.returns-in-Park-clause-stops
-returns-in-Park-clause-stops g c = λ told.
-    any_stops g.S.Site (step (Settle c.args.ticket c.args.body.now) c.args.self.now.plain).rows c.args.self.now c.park_load.new.self
+pub returns-in-Err-NoMemory-park_load-clause-stops : goal.returns-in-Err-NoMemory-park_load-clause-stops
+returns-in-Err-NoMemory-park_load-clause-stops g c = λ told.
+    any_stops g.S.Site (step (Settle c.args.ticket.now c.args.body.now) c.args.self.now.plain).rows c.args.self.now c.park_load.new.self
     (c.park_load.ensures.files told).0
 
 pub returns-in-Ok-rest_load-clause-stops : goal.returns-in-Ok-rest_load-clause-stops
 returns-in-Ok-rest_load-clause-stops g c = λ told.
-    any_stops g.S.Site (step (Settle c.args.ticket c.args.body.now) c.args.self.now.plain).rows c.args.self.now c.rest_load.new.self
+    any_stops g.S.Site (step (Settle c.args.ticket.now c.args.body.now) c.args.self.now.plain).rows c.args.self.now c.rest_load.new.self
     (c.rest_load.ensures.files told).0
 
 pub returns-in-Err-Slip-rest_load-clause-stops : goal.returns-in-Err-Slip-rest_load-clause-stops
 returns-in-Err-Slip-rest_load-clause-stops g c = λ told.
-    any_stops g.S.Site (step (Settle c.args.ticket c.args.body.now) c.args.self.now.plain).rows c.args.self.now c.rest_load.new.self
+    any_stops g.S.Site (step (Settle c.args.ticket.now c.args.body.now) c.args.self.now.plain).rows c.args.self.now c.rest_load.new.self
     (c.rest_load.ensures.files told).0
 
-pub returns-in-Back-clause-stops : goal.returns-in-Back-clause-stops
-returns-in-Back-clause-stops g c = λ told.
-    any_stops g.S.Site (step (Settle c.args.ticket c.args.body.now) c.args.self.now.plain).rows c.args.self.now c.rest_load.new.self
+pub returns-in-Err-NoMemory-rest_load-clause-stops : goal.returns-in-Err-NoMemory-rest_load-clause-stops
+returns-in-Err-NoMemory-rest_load-clause-stops g c = λ told.
+    any_stops g.S.Site (step (Settle c.args.ticket.now c.args.body.now) c.args.self.now.plain).rows c.args.self.now c.rest_load.new.self
     (c.rest_load.ensures.files told).0
 
 pub returns-in-Ok-drop_load-clause-stops : goal.returns-in-Ok-drop_load-clause-stops
 returns-in-Ok-drop_load-clause-stops g c = λ told.
-    any_stops g.S.Site (step (Settle c.args.ticket c.args.body.now) c.args.self.now.plain).rows c.args.self.now c.drop_load.new.self
+    any_stops g.S.Site (step (Settle c.args.ticket.now c.args.body.now) c.args.self.now.plain).rows c.args.self.now c.drop_load.new.self
     (c.drop_load.ensures.files told).0
 
 pub returns-in-Err-Slip-drop_load-clause-stops : goal.returns-in-Err-Slip-drop_load-clause-stops
 returns-in-Err-Slip-drop_load-clause-stops g c = λ told.
-    any_stops g.S.Site (step (Settle c.args.ticket c.args.body.now) c.args.self.now.plain).rows c.args.self.now c.drop_load.new.self
+    any_stops g.S.Site (step (Settle c.args.ticket.now c.args.body.now) c.args.self.now.plain).rows c.args.self.now c.drop_load.new.self
     (c.drop_load.ensures.files told).0
 
-pub returns-clause-stops : goal.returns-clause-stops
-returns-clause-stops g c = λ told.
-    any_stops g.S.Site (step (Settle c.args.ticket c.args.body.now) c.args.self.now.plain).rows c.args.self.now c.drop_load.new.self
+pub returns-in-Err-NoMemory-drop_load-clause-stops : goal.returns-in-Err-NoMemory-drop_load-clause-stops
+returns-in-Err-NoMemory-drop_load-clause-stops g c = λ told.
+    any_stops g.S.Site (step (Settle c.args.ticket.now c.args.body.now) c.args.self.now.plain).rows c.args.self.now c.drop_load.new.self
     (c.drop_load.ensures.files told).0
