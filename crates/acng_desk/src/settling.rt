@@ -1,6 +1,7 @@
 //! Settling a ticket.
-ghost use Rattle.std.specs.Prelude.{◌≡◌, ◌≢◌, ◌⊎◌, true, ⊤};
-ghost use Rattle.acng_keeper.specs.Slips.{Later};
+ghost use Rattle.std.specs.Prelude.{◌≡◌, ◌≢◌, ◌⊎◌, true, ⊤, OnOk, OnErr, IfErr};
+ghost use Rattle.acng_keeper.specs.Slips.{SlipRose, Later};
+ghost use Rattle.acng_desk.specs.declared.ending.Ending.TheVariants.{Unknown};
 ghost use Rattle.acng_desk.specs.House.{spot_at};
 ghost use Rattle.acng_desk.specs.Settles.{Ends, IsLoaded, end_of, ended, grown_after, Falls, SettledAs, IfSettled};
 ghost use Rattle.acng_desk.specs.Commands.{Settle, step};
@@ -43,70 +44,64 @@ impl<S: Site, K: Keeper, T: Joint> Desk<S, K, T> {
         ensures later { Later self.old.faults self.new.faults }
     {
         let mut ticket = ticket;
-        let settled = self.come_in(alloc, &mut ticket, body);
+        let ending = self.ending(&ticket, body);
+        let came = self.come_in(alloc, ending, &mut ticket, body);
         spend(ticket);
-        settled
+        match came {
+            Ok(()) => match ending {
+                Ending::Keep => Settled::Kept,
+                Ending::Same => Settled::Same,
+                Ending::Park => Settled::Partial,
+                Ending::Unknown => Settled::Dropped,
+                Ending::Back => Settled::Dropped,
+                Ending::Drop => Settled::Dropped,
+            },
+            Err(KeepFault::Slip(slip)) => Settled::KeeperFault(slip),
+            Err(KeepFault::NoMemory) => Settled::NoMemory,
+        }
     }
 
-    // The same of a ticket that is spent afterwards: no way out drops it.
+    // The ticket comes in by its end. It is spent afterwards, so that no way out drops it.
     fn come_in<P: OriginSlip>(
         &mut self,
         alloc: Global,
+        ending: Ending,
         ticket: &mut Ticket<S, K::Body>,
         body: &mut Growing<S, K::Body, P>,
-    ) -> Settled<SlipOf<K>>
+    ) -> Result<(), KeepFault<SlipOf<K>>>
         requires ends { Ends ticket.old body.old }
-        ensures settled { SettledAs (end_of (spot_at self.old.plain body.old.path) ticket.old body.old)
-            self.old.faults self.new.faults result }
-        ensures plain { IfSettled result (self.new.plain ≡ step (Settle ticket.old body.old) self.old.plain)
-            (Falls (end_of (spot_at self.old.plain body.old.path) ticket.old body.old) ticket.old body.old
-            self.old.plain self.new.plain) }
-        ensures body { IfSettled result
-            (body.new ≡ grown_after (end_of (spot_at self.old.plain body.old.path) ticket.old body.old) body.old)
-            ((body.new ≡ body.old)
-            ⊎ (body.new ≡ grown_after (end_of (spot_at self.old.plain body.old.path) ticket.old body.old) body.old)) }
-        ensures exact { IfSettled result (K.tells ≡ true → IsFound self.old → IsFound self.new) ⊤ }
-        ensures stops { K.tells ≡ true → StopsAt S.Site (step (Settle ticket.old body.old) self.old.plain).rows self.old self.new }
+        requires ending { ending ≡ end_of (spot_at self.old.plain body.old.path) ticket.old body.old }
+        ensures plain { OnOk result (self.new.plain ≡ ended ending ticket.old body.old self.old.plain) }
+        ensures fell { OnErr result (Falls ending ticket.old body.old self.old.plain self.new.plain) }
+        ensures closed { OnOk result (body.new ≡ grown_after ending body.old) }
+        ensures body { (body.new ≡ body.old) ⊎ (body.new ≡ grown_after ending body.old) }
+        ensures exact { OnOk result (K.tells ≡ true → IsFound self.old → IsFound self.new) }
+        ensures stops { K.tells ≡ true → StopsAt S.Site (ended ending ticket.old body.old self.old.plain).rows self.old self.new }
         ensures later { Later self.old.faults self.new.faults }
+        ensures cause { IfErr result (λ e. SlipRose e self.old.faults self.new.faults) }
+        ensures known { OnErr result (ending ≢ Unknown) }
     {
         self.keeps();
         ticket.keeps();
         body.keeps();
-        let ending = self.ending(ticket, body);
         match ending {
-            Ending::Unknown => Settled::Dropped,
-            Ending::Keep => match self.keep_load(alloc, ticket.info(), body) {
-                Ok(()) => Settled::Kept,
-                Err(KeepFault::Slip(slip)) => Settled::KeeperFault(slip),
-                Err(KeepFault::NoMemory) => Settled::NoMemory,
-            },
+            Ending::Unknown => Ok(()),
+            Ending::Keep => self.keep_load(alloc, ticket.info(), body),
             Ending::Same => match self.same_load(alloc, ticket.info()) {
-                Ok(()) => Settled::Same,
-                Err(RowFault::KeeperFault(slip)) => Settled::KeeperFault(slip),
-                Err(RowFault::NoMemory) => Settled::NoMemory,
+                Ok(()) => Ok(()),
+                Err(RowFault::KeeperFault(slip)) => Err(KeepFault::Slip(slip)),
+                Err(RowFault::NoMemory) => Err(KeepFault::NoMemory),
                 Err(RowFault::NotHeld) => unreachable!(),
             },
-            Ending::Park => match self.park_load(alloc, ticket.info(), body) {
-                Ok(()) => Settled::Partial,
-                Err(KeepFault::Slip(slip)) => Settled::KeeperFault(slip),
-                Err(KeepFault::NoMemory) => Settled::NoMemory,
-            },
+            Ending::Park => self.park_load(alloc, ticket.info(), body),
             Ending::Back => {
                 let Some(part) = ticket.take_partial() else {
                     unreachable!();
                 };
                 let info = ticket.info();
-                match self.rest_load(alloc, info, part, Some(info.fresh)) {
-                    Ok(()) => Settled::Dropped,
-                    Err(KeepFault::Slip(slip)) => Settled::KeeperFault(slip),
-                    Err(KeepFault::NoMemory) => Settled::NoMemory,
-                }
+                self.rest_load(alloc, info, part, Some(info.fresh))
             }
-            Ending::Drop => match self.drop_load(alloc, ticket.info()) {
-                Ok(()) => Settled::Dropped,
-                Err(KeepFault::Slip(slip)) => Settled::KeeperFault(slip),
-                Err(KeepFault::NoMemory) => Settled::NoMemory,
-            },
+            Ending::Drop => self.drop_load(alloc, ticket.info()),
         }
     }
 }

@@ -11,12 +11,12 @@ use Rattle.acng_desk.specs.declared.ending.Ending.TheVariants as ending
 use Rattle.acng_desk.specs.declared.ticket.Info.{Info}
 use Rattle.acng_desk.specs.House.{Parked, parked_of, spot_at}
 use Rattle.acng_desk.specs.Tickets.{Ticketed}
-use Rattle.acng_desk.specs.Settles.{IsAmong}
+use Rattle.acng_desk.specs.Settles.{IsAmong, ended}
 use Rattle.acng_desk.proofs.Changes.{later}
 use Rattle.acng_desk.proofs.Endings.{end_out, keep_stage, same_stage, park_stage, back_stage, park_room, room_is, same_held, ticket_part}
 use Rattle.acng_desk.proofs.Endings.{ticket_below, part_number, file_number}
 use Rattle.acng_desk.proofs.Owns.{own_apart, out_below}
-use Rattle.acng_desk.specs.Commands.{Settle, step}
+use Rattle.acng_desk.proofs.Results.{ok_all}
 use Rattle.acng_desk.proofs.Stopped.{rest_stops, any_stops}
 use Rattle.acng_desk.proofs.desk.Desk.come_in.Goals as goal
 
@@ -32,7 +32,7 @@ keep_load-requires-clause-stage g c =
     let t = c.args.ticket.now in
     let body = c.args.body.now in
     let s = spot_at plain body.path in
-    let o = end_out s t body ending.Keep (sym c.ending-ending.ensures ∙ c.in-Keep.is) (λ q. cc) in
+    let o = end_out s t body ending.Keep (sym c.requires.ending ∙ c.in-Keep.is) (λ q. cc) in
     keep_stage s t body body.seen.stage o.1
 
 pub keep_load-requires-clause-label : goal.keep_load-requires-clause-label
@@ -41,7 +41,7 @@ keep_load-requires-clause-label g c =
     let t = c.args.ticket.now in
     let body = c.args.body.now in
     let s = spot_at plain body.path in
-    let o = end_out s t body ending.Keep (sym c.ending-ending.ensures ∙ c.in-Keep.is) (λ q. cc) in
+    let o = end_out s t body ending.Keep (sym c.requires.ending ∙ c.in-Keep.is) (λ q. cc) in
     let is = keep_stage s t body body.seen.stage o.1 in
     let P : Info → Type 0 = λ i. IfSome body.seen.label (IsAmong i.first) in
     subst P (sym c.info.ensures) (c.requires.ends.label (λ q. whole_same (sym is ∙ q)))
@@ -52,7 +52,7 @@ same_load-requires-clause-held g c =
     let t = c.args.ticket.now in
     let body = c.args.body.now in
     let s = spot_at plain body.path in
-    let o = end_out s t body ending.Same (sym c.ending-ending.ensures ∙ c.in-Same.is) (λ q. cc) in
+    let o = end_out s t body ending.Same (sym c.requires.ending ∙ c.in-Same.is) (λ q. cc) in
     let is = same_stage s t body body.seen.stage o.1 in
     let held = same_held (whole_in s.row) t.info (number_of body) is.1 (c.requires.ends.file_same is.0)
     (file_number body.file (c.keeps-3.ensures.file.same is.0)) in
@@ -64,7 +64,7 @@ unreachable-requires g c =
     let t = c.args.ticket.now in
     let body = c.args.body.now in
     let s = spot_at plain body.path in
-    let o = end_out s t body ending.Same (sym c.ending-ending.ensures ∙ c.in-Same.is) (λ q. cc) in
+    let o = end_out s t body ending.Same (sym c.requires.ending ∙ c.in-Same.is) (λ q. cc) in
     let is = same_stage s t body body.seen.stage o.1 in
     let held = same_held (whole_in s.row) t.info (number_of body) is.1 (c.requires.ends.file_same is.0)
     (file_number body.file (c.keeps-3.ensures.file.same is.0)) in
@@ -82,7 +82,7 @@ park_load-requires-clause-cut g c =
     let t = c.args.ticket.now in
     let body = c.args.body.now in
     let s = spot_at plain body.path in
-    let o = end_out s t body ending.Park (sym c.ending-ending.ensures ∙ c.in-Park.is) (λ q. cc) in
+    let o = end_out s t body ending.Park (sym c.requires.ending ∙ c.in-Park.is) (λ q. cc) in
     (park_stage s t body body.seen.stage o.1).0
 
 pub park_load-requires-clause-label : goal.park_load-requires-clause-label
@@ -91,7 +91,7 @@ park_load-requires-clause-label g c =
     let t = c.args.ticket.now in
     let body = c.args.body.now in
     let s = spot_at plain body.path in
-    let o = end_out s t body ending.Park (sym c.ending-ending.ensures ∙ c.in-Park.is) (λ q. cc) in
+    let o = end_out s t body ending.Park (sym c.requires.ending ∙ c.in-Park.is) (λ q. cc) in
     let is = (park_stage s t body body.seen.stage o.1).0 in
     let P : Info → Type 0 = λ i. IfSome body.seen.label (IsAmong i.first) in
     subst P (sym c.info-in-Park.ensures) (c.requires.ends.label (λ q. cut_same (sym is ∙ q)))
@@ -102,7 +102,7 @@ park_load-requires-clause-room g c =
     let t = c.args.ticket.now in
     let body = c.args.body.now in
     let s = spot_at plain body.path in
-    let o = end_out s t body ending.Park (sym c.ending-ending.ensures ∙ c.in-Park.is) (λ q. cc) in
+    let o = end_out s t body ending.Park (sym c.requires.ending ∙ c.in-Park.is) (λ q. cc) in
     room_is plain body.path (park_room s body (park_stage s t body body.seen.stage o.1).1)
 
 pub unreachable-requires-in_default : goal.unreachable-requires-in_default
@@ -111,7 +111,7 @@ unreachable-requires-in_default g c =
     let t = c.args.ticket.now in
     let body = c.args.body.now in
     let s = spot_at plain body.path in
-    let o = end_out s t body ending.Back (sym c.ending-ending.ensures ∙ c.in-Back.is) (λ q. cc) in
+    let o = end_out s t body ending.Back (sym c.requires.ending ∙ c.in-Back.is) (λ q. cc) in
     let some : is_some t.part_body ≡ true = (back_stage s t body body.seen.stage o.1).1 in
     true≢false (sym some ∙ sym (ap is_some c.take_partial.ensures.given)
     ∙ ap (λ q. is_some (option_map (parked_of g.K.Body.BodyFile.handle) q)) c.in_default.is)
@@ -122,7 +122,7 @@ rest_load-requires-clause-below g c =
     let t = c.args.ticket.now in
     let body = c.args.body.now in
     let s = spot_at plain body.path in
-    let o = end_out s t body ending.Back (sym c.ending-ending.ensures ∙ c.in-Back.is) (λ q. cc) in
+    let o = end_out s t body ending.Back (sym c.requires.ending ∙ c.in-Back.is) (λ q. cc) in
     let b : Parked = parked_of g.K.Body.BodyFile.handle c.in-Some.part in
     let at : t.part_body ≡ Some b = sym c.take_partial.ensures.given ∙ ap (option_map (parked_of g.K.Body.BodyFile.handle)) c.in-Some.is in
     let more : t.info.first + 16 ≤ plain.next_try = out_below g.S.Site g.K.Keeper.tells plain body.path t.info c.keeps.ensures.plain o.0 in
@@ -134,7 +134,7 @@ rest_load-requires-clause-room g c =
     let t = c.args.ticket.now in
     let body = c.args.body.now in
     let s = spot_at plain body.path in
-    let o = end_out s t body ending.Back (sym c.ending-ending.ensures ∙ c.in-Back.is) (λ q. cc) in
+    let o = end_out s t body ending.Back (sym c.requires.ending ∙ c.in-Back.is) (λ q. cc) in
     room_is plain body.path (back_stage s t body body.seen.stage o.1).2
 
 pub rest_load-requires-clause-other : goal.rest_load-requires-clause-other
@@ -143,7 +143,7 @@ rest_load-requires-clause-other g c =
     let t = c.args.ticket.now in
     let body = c.args.body.now in
     let s = spot_at plain body.path in
-    let o = end_out s t body ending.Back (sym c.ending-ending.ensures ∙ c.in-Back.is) (λ q. cc) in
+    let o = end_out s t body ending.Back (sym c.requires.ending ∙ c.in-Back.is) (λ q. cc) in
     let b : Parked = parked_of g.K.Body.BodyFile.handle c.in-Some.part in
     let at : t.part_body ≡ Some b = sym c.take_partial.ensures.given ∙ ap (option_map (parked_of g.K.Body.BodyFile.handle)) c.in-Some.is in
     let number = part_number t.info b (ticket_part g.S.Site g.K.Body.BodyFile.tells t b c.keeps-2.ensures at) in (
@@ -156,49 +156,22 @@ rest_load-requires-clause-other g c =
 
 pub returns-in-Unknown-clause-stops : goal.returns-in-Unknown-clause-stops
 returns-in-Unknown-clause-stops g c = λ told.
-    rest_stops g.S.Site (step (Settle c.args.ticket.now c.args.body.now) c.args.self.now.plain).rows c.args.self.now c.args.self.now refl
+    rest_stops g.S.Site (ended c.args.ending c.args.ticket.now c.args.body.now c.args.self.now.plain).rows c.args.self.now c.args.self.now refl
 
-pub returns-in-Ok-park_load-clause-stops : goal.returns-in-Ok-park_load-clause-stops
-returns-in-Ok-park_load-clause-stops g c = λ told.
-    any_stops g.S.Site (step (Settle c.args.ticket.now c.args.body.now) c.args.self.now.plain).rows c.args.self.now c.park_load.new.self
+pub returns-in-Park-clause-stops : goal.returns-in-Park-clause-stops
+returns-in-Park-clause-stops g c = λ told.
+    any_stops g.S.Site (ended c.args.ending c.args.ticket.now c.args.body.now c.args.self.now.plain).rows c.args.self.now c.park_load.new.self
     (c.park_load.ensures.files told).0
 
-pub returns-in-Err-Slip-park_load-clause-stops : goal.returns-in-Err-Slip-park_load-clause-stops
-returns-in-Err-Slip-park_load-clause-stops g c = λ told.
-    any_stops g.S.Site (step (Settle c.args.ticket.now c.args.body.now) c.args.self.now.plain).rows c.args.self.now c.park_load.new.self
-    (c.park_load.ensures.files told).0
-
-pub returns-in-Err-NoMemory-park_load-clause-stops : goal.returns-in-Err-NoMemory-park_load-clause-stops
-returns-in-Err-NoMemory-park_load-clause-stops g c = λ told.
-    any_stops g.S.Site (step (Settle c.args.ticket.now c.args.body.now) c.args.self.now.plain).rows c.args.self.now c.park_load.new.self
-    (c.park_load.ensures.files told).0
-
-pub returns-in-Ok-rest_load-clause-stops : goal.returns-in-Ok-rest_load-clause-stops
-returns-in-Ok-rest_load-clause-stops g c = λ told.
-    any_stops g.S.Site (step (Settle c.args.ticket.now c.args.body.now) c.args.self.now.plain).rows c.args.self.now c.rest_load.new.self
+pub returns-in-Some-clause-stops : goal.returns-in-Some-clause-stops
+returns-in-Some-clause-stops g c = λ told.
+    any_stops g.S.Site (ended c.args.ending c.args.ticket.now c.args.body.now c.args.self.now.plain).rows c.args.self.now c.rest_load.new.self
     (c.rest_load.ensures.files told).0
 
-pub returns-in-Err-Slip-rest_load-clause-stops : goal.returns-in-Err-Slip-rest_load-clause-stops
-returns-in-Err-Slip-rest_load-clause-stops g c = λ told.
-    any_stops g.S.Site (step (Settle c.args.ticket.now c.args.body.now) c.args.self.now.plain).rows c.args.self.now c.rest_load.new.self
-    (c.rest_load.ensures.files told).0
-
-pub returns-in-Err-NoMemory-rest_load-clause-stops : goal.returns-in-Err-NoMemory-rest_load-clause-stops
-returns-in-Err-NoMemory-rest_load-clause-stops g c = λ told.
-    any_stops g.S.Site (step (Settle c.args.ticket.now c.args.body.now) c.args.self.now.plain).rows c.args.self.now c.rest_load.new.self
-    (c.rest_load.ensures.files told).0
-
-pub returns-in-Ok-drop_load-clause-stops : goal.returns-in-Ok-drop_load-clause-stops
-returns-in-Ok-drop_load-clause-stops g c = λ told.
-    any_stops g.S.Site (step (Settle c.args.ticket.now c.args.body.now) c.args.self.now.plain).rows c.args.self.now c.drop_load.new.self
+pub returns-in-Drop-clause-stops : goal.returns-in-Drop-clause-stops
+returns-in-Drop-clause-stops g c = λ told.
+    any_stops g.S.Site (ended c.args.ending c.args.ticket.now c.args.body.now c.args.self.now.plain).rows c.args.self.now c.drop_load.new.self
     (c.drop_load.ensures.files told).0
 
-pub returns-in-Err-Slip-drop_load-clause-stops : goal.returns-in-Err-Slip-drop_load-clause-stops
-returns-in-Err-Slip-drop_load-clause-stops g c = λ told.
-    any_stops g.S.Site (step (Settle c.args.ticket.now c.args.body.now) c.args.self.now.plain).rows c.args.self.now c.drop_load.new.self
-    (c.drop_load.ensures.files told).0
-
-pub returns-in-Err-NoMemory-drop_load-clause-stops : goal.returns-in-Err-NoMemory-drop_load-clause-stops
-returns-in-Err-NoMemory-drop_load-clause-stops g c = λ told.
-    any_stops g.S.Site (step (Settle c.args.ticket.now c.args.body.now) c.args.self.now.plain).rows c.args.self.now c.drop_load.new.self
-    (c.drop_load.ensures.files told).0
+pub returns-in-Some-clause-exact : goal.returns-in-Some-clause-exact
+returns-in-Some-clause-exact g c = ok_all c.rest_load.result (λ told. (c.rest_load.ensures.files told).1)
