@@ -146,20 +146,24 @@ fn bytes_beyond_ascii_are_refused(rt: HostRuntime) {
     }
 }
 
+// The port, the days, the problems, the seconds and the redirects.
+fn numbers(conf: &Conf) -> [u64; 5] {
+    [
+        u64::from(conf.port()),
+        u64::from(conf.threshold_days()),
+        u64::from(conf.abort_limit()),
+        conf.fresh_age(),
+        u64::from(conf.redir_max()),
+    ]
+}
+
 #[test]
 fn a_key_that_is_missing_has_its_default(rt: HostRuntime) {
     let none = conf_of(&rt, rt.alloc(), b"");
-    assert_eq!(rt; none.port(), 3142);
+    assert!(rt; numbers(&none) == [3142, 4, 1, 27, 5]);
+    assert!(rt; !none.offline() && !none.maint_over_http());
     assert!(rt; none.bind() == b"0.0.0.0".as_slice());
     assert!(rt; none.report_page() == b"acng-report.html".as_slice());
-    assert_eq!(rt;
-        (none.threshold_days(), none.abort_limit(), none.fresh_age()),
-        (4, 1, 27)
-    );
-    assert_eq!(rt;
-        (none.redir_max(), none.offline(), none.maint_over_http()),
-        (5, false, false)
-    );
     assert!(rt; none.pfile_pattern().is_none() && none.vfile_pattern().is_none());
 }
 
@@ -169,17 +173,10 @@ fn the_last_value_of_a_key_counts(rt: HostRuntime) {
         ExAbortOnProblems: 7\nOfflinemode: 1\nFreshIndexMaxAge: 0\nRedirMax: 0\nMaintOverHttp: 1\n\
         PfilePatternEx: a b  # c\nVfilePatternEx:\n";
     let conf = conf_of(&rt, rt.alloc(), text);
-    assert_eq!(rt; conf.port(), 99);
+    assert!(rt; numbers(&conf) == [99, 0, 7, 0, 0]);
+    assert!(rt; conf.offline() && conf.maint_over_http());
     assert!(rt; conf.bind() == b"a".as_slice());
     assert!(rt; conf.report_page() == b"r".as_slice());
-    assert_eq!(rt;
-        (conf.threshold_days(), conf.abort_limit(), conf.fresh_age()),
-        (0, 7, 0)
-    );
-    assert_eq!(rt;
-        (conf.redir_max(), conf.offline(), conf.maint_over_http()),
-        (0, true, true)
-    );
     assert!(rt; conf.pfile_pattern() == Some(b"a b".as_slice()));
     assert!(rt; conf.vfile_pattern() == Some(b"".as_slice()));
 }
@@ -198,11 +195,8 @@ fn rules_are_those_of_the_configuration(rt: HostRuntime) {
     let Ok(rules) = conf.rules(rt.alloc()) else {
         panic!(rt; "no memory");
     };
-    assert_eq!(rt;
-        (rules.threshold_days(), rules.abort_limit(), rules.offline()),
-        (9, 7, true)
-    );
-    assert_eq!(rt; (rules.fresh_age(), rules.redir_max()), (8, 6));
+    assert!(rt; rules.threshold_days() == 9 && rules.abort_limit() == 7);
+    assert!(rt; rules.fresh_age() == 8 && rules.redir_max() == 6 && rules.offline());
     assert!(rt; rules.pfile_pattern().is_none());
     assert!(rt; rules.vfile_pattern() == Some(b"readme$".as_slice()));
     assert!(rt; is_shared(&conf) && is_shared(&rules));

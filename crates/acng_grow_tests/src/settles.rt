@@ -1,5 +1,6 @@
 //! The end of a body: its file is made durable and sealed, a held file is kept, and the plan of a body is compared.
 ghost use Rattle.std.specs.Prelude.{◌≡◌, Some, None};
+ghost use Rattle.acng_grow.specs.Effects.{opening as opening_seen};
 
 use crate::bodies::{Body, Unmade, opening, running, send};
 use acng_base::{CachePath, Text};
@@ -24,16 +25,26 @@ fn two_bytes() -> Facts
 // A keeper whose first body is sealed by a growing one of two bytes.
 fn sealed(alloc: Global) -> Result<MemoryKeeper, Unmade> {
     let mut keeper = MemoryKeeper::new(alloc, &[])?;
-    let (_, file) = keeper.create(alloc)?;
     let mut body = opening(alloc)?;
-    body.begin_body(file, Text::copy(alloc, b"http://h/a")?, 3, two_bytes());
+    seal(alloc, &mut keeper, &mut body)?;
+    Ok(keeper)
+}
+
+fn seal(alloc: Global, keeper: &mut MemoryKeeper, body: &mut Body) -> Result<(), Unmade>
+    requires { body.old.seen ≡ opening_seen }
+{
+    let url = Text::copy(alloc, b"http://h/a")?;
+    if keeper.next_id() != 0 {
+        return Err(Unmade::Keeper);
+    }
+    let (_, file) = keeper.create(alloc)?;
+    body.begin_body(file, url, 3, two_bytes());
     body.add(alloc, b"ab")?;
     body.finish();
     if body.flush().is_err() {
         return Err(Unmade::Keeper);
     }
-    body.seal(alloc, &mut keeper)?;
-    Ok(keeper)
+    Ok(body.seal(alloc, keeper)?)
 }
 
 // A held file is kept by another body, and sent from its second byte on.

@@ -1,5 +1,8 @@
 //! A body in each of its stages.
-ghost use Rattle.std.specs.Prelude.{◌≡◌, ◌≤◌};
+ghost use Rattle.std.specs.Prelude.{◌≡◌, ◌≤◌, Some};
+ghost use Rattle.acng_head.specs.declared.head.Label.TheVariants.{Fetched};
+ghost use Rattle.acng_grow.specs.declared.facts.Stage.TheVariants.{Running};
+ghost use Rattle.acng_grow.specs.Effects.{opening as opening_seen};
 
 use crate::bodies::{Body, Unmade, opening, running, send};
 use acng_base::CachePath;
@@ -73,24 +76,40 @@ fn is_told(
     Ok(body.look(&asked).is_some())
 }
 
-// A body of attempt 3 is told of to those that ask for it, by its attempts or as the old one.
-fn tells_the_asked(alloc: Global) -> Result<bool, Unmade> {
+// A path, the first attempt and the old label that are asked for, and whether a body of attempt 3 at `h/a` is told of.
+const ASKED: &[(&[u8], u64, Option<Label>, bool)] = &[
+    (b"h/a", 3, None, true),
+    (b"h/a", 0, None, true),
+    (b"h/a", 4, None, false),
+    (b"h/a", 4, Some(Label::Fetched { first: 3, last: 3 }), true),
+    (b"h/a", 4, Some(Label::Fetched { first: 2, last: 3 }), false),
+    (b"h/b", 3, None, false),
+];
+
+// The first row of them that doesn't hold.
+fn wrong_row(alloc: Global, body: &Body) -> Result<Option<usize>, Unmade> {
+    for (at, (path, first_try, old, told)) in ASKED.iter().enumerate() {
+        if is_told(alloc, body, path, *first_try, *old)? != *told {
+            return Ok(Some(at));
+        }
+    }
+    Ok(None)
+}
+
+fn wrong_row_of_a_running_one(alloc: Global) -> Result<Option<usize>, Unmade> {
     let body = running(alloc, &[], b"abc", None)?;
-    let same = Some(Label::Fetched { first: 3, last: 3 });
-    let other = Some(Label::Fetched { first: 2, last: 3 });
-    let by_attempt = is_told(alloc, &body, b"h/a", 3, None)?
-        && is_told(alloc, &body, b"h/a", 0, None)?;
-    let not_before = !is_told(alloc, &body, b"h/a", 4, None)?
-        && !is_told(alloc, &body, b"h/a", 4, other)?;
-    let as_old = is_told(alloc, &body, b"h/a", 4, same)?;
-    let other_path = is_told(alloc, &body, b"h/b", 3, None)?;
-    let opens = is_told(alloc, &opening(alloc)?, b"h/a", 3, None)?;
-    Ok(by_attempt && not_before && as_old && !other_path && !opens)
+    wrong_row(alloc, &body)
+}
+
+fn tells_of_an_opening_one(alloc: Global) -> Result<bool, Unmade> {
+    let body = opening(alloc)?;
+    is_told(alloc, &body, b"h/a", 3, None)
 }
 
 #[test]
 fn a_look_tells_of_the_asked_body_alone(rt: HostRuntime) -> Result<(), Fail> {
-    assert!(rt; matches!(tells_the_asked(rt.alloc()), Ok(true)));
+    assert!(rt; matches!(wrong_row_of_a_running_one(rt.alloc()), Ok(None)));
+    assert!(rt; matches!(tells_of_an_opening_one(rt.alloc()), Ok(false)));
     Ok(())
 }
 
@@ -111,6 +130,18 @@ fn a_body_is_refused_with_its_cause(rt: HostRuntime) -> Result<(), Fail> {
 // A body of three of four bytes is cut, and attempt 9 goes on with its file.
 fn goes_on(alloc: Global) -> Result<bool, Unmade> {
     let mut body = running(alloc, &[], b"abc", Some(4))?;
+    let mut next = opening(alloc)?;
+    hands_on(alloc, &mut body, &mut next)
+}
+
+fn hands_on(alloc: Global, body: &mut Body, next: &mut Body) -> Result<bool, Unmade>
+    requires running { body.old.seen.stage ≡ Running }
+    requires label { body.old.seen.label ≡ Some (Fetched 3 3) }
+    requires size { body.old.seen.size ≡ 3 }
+    requires total { body.old.seen.facts.total ≡ Some 4 }
+    requires opening { next.old.seen ≡ opening_seen }
+{
+    body.keeps();
     body.cut(Why::NoMemory);
     let Some(part) = body.move_out() else {
         return Ok(false);
@@ -118,13 +149,12 @@ fn goes_on(alloc: Global) -> Result<bool, Unmade> {
     let Label::Fetched { first, .. } = part.label else {
         return Ok(false);
     };
-    let left = body.url().is_none() && taken(&mut body, 0, 1).0 == 'c';
-    let mut next = opening(alloc)?;
+    let left = body.url().is_none() && taken(body, 0, 1).0 == 'c';
     next.go_on(part.body, part.url, first, 9, part.facts);
     next.add(alloc, b"d")?;
     next.finish();
     let label = next.label() == Some(Label::Fetched { first: 3, last: 9 });
-    Ok(left && label && taken(&mut next, 0, 4) == ('4', *b"abcd"))
+    Ok(left && label && taken(next, 0, 4) == ('4', *b"abcd"))
 }
 
 #[test]

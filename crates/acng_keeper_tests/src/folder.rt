@@ -1,7 +1,6 @@
 //! What a folder has after each call. Its files are looked at too.
-ghost use Rattle.std.specs.Prelude.{◌≡◌, true};
-
 use crate::open::no_folder;
+use crate::steps::{append, created, flush, lists, put_head, seal};
 use crate::stops::can_be_sent;
 use acng_keeper::{BodyFile, BodyId, FolderKeeper, KeepFault, Keeper};
 use std::alloc::Global;
@@ -13,39 +12,20 @@ use std::test::Fail;
 fn fill<K: Keeper>(rt: &impl Abort, alloc: Global, keeper: &mut K) {
     let mut body = created(rt, alloc, keeper);
     append(rt, alloc, &mut body, b"abc");
-    assert!(rt; body.flush().is_ok());
+    flush(rt, &mut body);
     append(rt, alloc, &mut body, b"def");
     append(rt, alloc, &mut body, b"ghi");
-    assert!(rt; body.flush().is_ok());
+    flush(rt, &mut body);
     assert_eq!(rt; body.len(), 9);
     reads(rt, &mut body, 4, b"efghi");
     reads(rt, &mut body, 9, b"");
-    let id = body.id();
-    assert_eq!(rt; id, BodyId(0));
-    assert!(rt; id.0 < keeper.next_id());
-    assert!(rt; keeper.seal(alloc, id, body).is_ok());
+    assert_eq!(rt; body.id(), BodyId(0));
+    seal(rt, alloc, keeper, body);
     put_head(rt, alloc, keeper, b"a head");
     put_head(rt, alloc, keeper, b"the head");
     let mut body = created(rt, alloc, keeper);
     assert_eq!(rt; body.id(), BodyId(1));
     append(rt, alloc, &mut body, b"xyz");
-}
-
-fn created<K: Keeper>(rt: &impl Abort, alloc: Global, keeper: &mut K) -> K::Body
-    ensures { (K.Body.handle result).writable ≡ true }
-{
-    assert!(rt; keeper.next_id() < 1 << 62);
-    match keeper.create(alloc) {
-        Ok((_, body)) => body,
-        Err(_) => panic!(rt; "create"),
-    }
-}
-
-fn append<B: BodyFile>(rt: &impl Abort, alloc: Global, body: &mut B, piece: &[u8])
-    requires { (B.handle body.old).writable ≡ true }
-    ensures { (B.handle body.new).writable ≡ true }
-{
-    assert!(rt; body.append(alloc, piece).is_ok());
 }
 
 // The body has these bytes from a place on.
@@ -55,11 +35,6 @@ fn reads<B: BodyFile>(rt: &impl Abort, body: &mut B, from: u64, bytes: &[u8]) {
         Ok(count) => assert_eq!(rt; &buf[..count], bytes),
         Err(_) => panic!(rt; "read_at"),
     }
-}
-
-fn put_head<K: Keeper>(rt: &impl Abort, alloc: Global, keeper: &mut K, bytes: &[u8]) {
-    assert!(rt; 0 < keeper.next_id());
-    assert!(rt; keeper.put_head(alloc, BodyId(0), bytes).is_ok());
 }
 
 // The head and the bodies that `fill` left.
@@ -93,6 +68,14 @@ fn has_the_head<K: Keeper>(rt: &impl Abort, alloc: Global, keeper: &mut K) {
     }
 }
 
+// What `fill` left goes.
+fn remove_all<K: Keeper>(rt: &impl Abort, alloc: Global, keeper: &mut K) {
+    assert!(rt; keeper.remove_body(alloc, BodyId(1)).is_ok());
+    assert!(rt; keeper.remove_head(alloc, BodyId(0)).is_ok());
+    assert!(rt; keeper.remove_body(alloc, BodyId(0)).is_ok());
+    lists(rt, alloc, keeper, 0, 0);
+}
+
 // Names that are no file's of the folder; the last isn't UTF-8.
 fn add_foreign(rt: &HostRuntime, folder: &str) -> Result<(), Fail> {
     let alloc = rt.alloc();
@@ -113,6 +96,11 @@ fn add_foreign(rt: &HostRuntime, folder: &str) -> Result<(), Fail> {
         return Err(Fail::from("the last name"));
     }
     Ok(())
+}
+
+// The bytes of a file of the folder.
+fn file_of(rt: &HostRuntime, folder: &str, name: &str) -> Result<Vec<u8>, Fail> {
+    Ok(fs::read(rt, format!(in rt.alloc(); "{folder}/{name}")?)?)
 }
 
 fn count_files(rt: &HostRuntime, folder: &str) -> Result<u64, Fail> {
@@ -136,9 +124,9 @@ fn a_folder_keeps_what_was_sealed_and_put(rt: HostRuntime) -> Result<(), Fail> {
     fill(&rt, alloc, &mut keeper);
     finds_all(&rt, alloc, &mut keeper);
     assert_eq!(rt; count_files(&rt, folder.as_str())?, 3);
-    let file = fs::read(&rt, format!(in alloc; "{folder}/b-0000000000000000")?)?;
-    assert_eq!(rt; file.as_slice(), b"abcdefghi".as_slice());
-    let head = fs::read(&rt, format!(in alloc; "{folder}/h-0000000000000000")?)?;
+    let body = file_of(&rt, folder.as_str(), "b-0000000000000000")?;
+    assert_eq!(rt; body.as_slice(), b"abcdefghi".as_slice());
+    let head = file_of(&rt, folder.as_str(), "h-0000000000000000")?;
     assert_eq!(rt; head.as_slice(), b"the head".as_slice());
     drop(keeper);
     fs::remove_dir_all(&rt, folder.as_str())?;
@@ -156,15 +144,19 @@ fn foreign_names_are_passed_over(rt: HostRuntime) -> Result<(), Fail> {
     add_foreign(&rt, folder.as_str())?;
     let mut keeper = FolderKeeper::new(rt.clone()?, alloc, folder.as_str())?;
     finds_all(&rt, alloc, &mut keeper);
-    keeper.remove_body(alloc, BodyId(1))?;
-    keeper.remove_head(alloc, BodyId(0))?;
-    keeper.remove_body(alloc, BodyId(0))?;
-    assert_eq!(rt; keeper.list_heads(alloc)?.len(), 0);
-    assert_eq!(rt; keeper.list_bodies(alloc)?.len(), 0);
+    remove_all(&rt, alloc, &mut keeper);
     assert_eq!(rt; count_files(&rt, folder.as_str())?, 7);
     drop(keeper);
     fs::remove_dir_all(&rt, folder.as_str())?;
     Ok(())
+}
+
+fn put_head_fails<K: Keeper>(rt: &impl Abort, alloc: Global, keeper: &mut K) {
+    assert!(rt; 0 < keeper.next_id());
+    match keeper.put_head(alloc, BodyId(0), b"another head".as_slice()) {
+        Err(KeepFault::Slip(_)) => {}
+        _ => panic!(rt; "the head isn't drafted"),
+    }
 }
 
 // A head written in place would be torn by a stop. Where the name that it is drafted under is taken by a folder, the
@@ -176,11 +168,7 @@ fn a_head_is_never_written_in_place(rt: HostRuntime) -> Result<(), Fail> {
     let mut keeper = FolderKeeper::new(rt.clone()?, alloc, folder.as_str())?;
     fill(&rt, alloc, &mut keeper);
     fs::create_dir(&rt, format!(in alloc; "{folder}/draft")?)?;
-    assert!(rt; 0 < keeper.next_id());
-    match keeper.put_head(alloc, BodyId(0), b"another head".as_slice()) {
-        Err(KeepFault::Slip(_)) => {}
-        _ => panic!(rt; "the head isn't drafted"),
-    }
+    put_head_fails(&rt, alloc, &mut keeper);
     has_the_head(&rt, alloc, &mut keeper);
     drop(keeper);
     fs::remove_dir_all(&rt, folder.as_str())?;

@@ -12,4 +12,6 @@ mod open;
 #[cfg(test)]
 mod script;
 #[cfg(test)]
+mod steps;
+#[cfg(test)]
 mod stops;

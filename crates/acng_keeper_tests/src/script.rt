@@ -7,6 +7,7 @@ ghost use Rattle.std.specs.Prelude.{◌≡◌, true, OnOk};
 ghost use Rattle.std.specs.FinMap as map;
 
 use crate::failing::Failing;
+use crate::steps::lists;
 use acng_keeper::{BodyFile, BodyId, KeepFault, Keeper, MemoryKeeper, SlipOf};
 use std::alloc::Global;
 use std::process::Abort;
@@ -38,18 +39,6 @@ pub fn run<K: Keeper>(rt: &impl Abort, alloc: Global, keeper: &mut K, failing: &
     remove(rt, alloc, keeper, id, failing);
     read(rt, &mut body, failing);
     lists(rt, alloc, keeper, 0, 0);
-}
-
-// The keeper lists so many heads and bodies.
-fn lists<K: Keeper>(rt: &impl Abort, alloc: Global, keeper: &mut K, heads: usize, bodies: usize) {
-    match keeper.list_heads(alloc) {
-        Ok(list) => assert_eq!(rt; list.len(), heads),
-        Err(_) => panic!(rt; "heads"),
-    }
-    match keeper.list_bodies(alloc) {
-        Ok(list) => assert_eq!(rt; list.len(), bodies),
-        Err(_) => panic!(rt; "bodies"),
-    }
 }
 
 // A body of six bytes.

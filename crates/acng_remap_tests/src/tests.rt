@@ -108,6 +108,18 @@ const FORMS: &[u8] =
 const THE_REPORT_PAGE: &[u8] =
     b"/acng-report.html\t?\n/acng-report.html?\t?\n/acng-report.html?run=expire&#\t?run=expire&#\n/acng-report.html/x\tacng-report.html/x http://acng-report.html/x\n/acng-report.htmlx\tEmpty\n//acng-report.html\tEmpty\nhttp://acng-report.html\tEmpty";
 
+const READINGS: &[&[u8]] = &[
+    MIRRORS_AND_PREFIXES_OF_ONE_GROUP,
+    WHOLE_SEGMENTS,
+    PATHS_THAT_AREN_T,
+    THE_LONGEST_ENTRY_DECIDES,
+    A_GROUP_WITHOUT_A_TARGET,
+    ESCAPES,
+    HOSTS_AND_PORTS,
+    FORMS,
+    THE_REPORT_PAGE,
+];
+
 fn expect_all(rt: &impl Abort, alloc: Global, conf: &Conf, rows: &[u8]) -> Result<(), Fail> {
     for row in rows.split(|b| *b == b'\n') {
         expect_row(rt, alloc, conf, row)?;
@@ -131,15 +143,9 @@ fn expect_row(rt: &impl Abort, alloc: Global, conf: &Conf, row: &[u8]) -> Result
 fn a_target_has_one_reading(rt: HostRuntime) -> Result<(), Fail> {
     let alloc = rt.alloc();
     let conf = conf_of(&rt, alloc, GROUPS);
-    expect_all(&rt, alloc, &conf, MIRRORS_AND_PREFIXES_OF_ONE_GROUP)?;
-    expect_all(&rt, alloc, &conf, WHOLE_SEGMENTS)?;
-    expect_all(&rt, alloc, &conf, PATHS_THAT_AREN_T)?;
-    expect_all(&rt, alloc, &conf, THE_LONGEST_ENTRY_DECIDES)?;
-    expect_all(&rt, alloc, &conf, A_GROUP_WITHOUT_A_TARGET)?;
-    expect_all(&rt, alloc, &conf, ESCAPES)?;
-    expect_all(&rt, alloc, &conf, HOSTS_AND_PORTS)?;
-    expect_all(&rt, alloc, &conf, FORMS)?;
-    expect_all(&rt, alloc, &conf, THE_REPORT_PAGE)?;
+    for rows in READINGS {
+        expect_all(&rt, alloc, &conf, rows)?;
+    }
     Ok(())
 }
 
@@ -160,21 +166,23 @@ fn a_group_by_lists_asks_the_listed_mirror(rt: HostRuntime) -> Result<(), Fail> 
     Ok(())
 }
 
+// What is read of a path of one segment with so many bytes behind its host.
+fn shown_of_length(alloc: Global, conf: &Conf, len: usize) -> Result<Vec<u8>, NoMemory> {
+    let mut target = Vec::from_slice(alloc, b"/h/")?;
+    for _ in 0..len {
+        target.push(b'a')?;
+    }
+    shown(alloc, conf, b"GET", target.as_slice())
+}
+
 // 1,024 bytes are a path, and one more is too long.
 #[test]
 fn a_path_of_the_cache_has_at_most_1024_bytes(rt: HostRuntime) -> Result<(), Fail> {
     let alloc = rt.alloc();
     let conf = conf_of(&rt, alloc, NO_GROUPS);
-    for (len, reading) in [(1022, None), (1023, Some(b"TooLong 1025".as_slice()))] {
-        let mut target = Vec::from_slice(alloc, b"/h/")?;
-        for _ in 0..len {
-            target.push(b'a')?;
-        }
-        let text = shown(alloc, &conf, b"GET", target.as_slice())?;
-        match reading {
-            Some(reading) => assert_eq!(rt; text.as_slice(), reading),
-            None => assert_eq!(rt; text.len(), 1024 + 8 + 1024),
-        }
-    }
+    let text = shown_of_length(alloc, &conf, 1022)?;
+    assert_eq!(rt; text.len(), 1024 + 8 + 1024);
+    let text = shown_of_length(alloc, &conf, 1023)?;
+    assert_eq!(rt; text.as_slice(), b"TooLong 1025".as_slice());
     Ok(())
 }
