@@ -1,12 +1,14 @@
 //! What a start makes of stored heads and bodies.
-ghost use Rattle.std.specs.Prelude.{◌≡◌, ◌≢◌, ◌<◌, ◌≤◌, length};
+ghost use Rattle.std.specs.Prelude.{◌≡◌, ◌≢◌, ◌<◌, ◌≤◌, length, IfOk};
+ghost use Rattle.acng_desk.specs.Keeps.{IsIdle};
 
 use crate::folder::{Folder, counts, fill, no_folder, opened, path_of};
 use acng_base::{Moment, Texts};
 use acng_class::Class;
 use acng_conf::{Conf, read_conf};
-use acng_desk::{Begun, Desk, StartCause};
+use acng_desk::{Begun, Desk, StartCause, StartFault};
 use acng_head::Label;
+use acng_keeper::SlipOf;
 use acng_site::{MemoryOrigin, NoGate, Right, Untold};
 use std::alloc::Global;
 use std::fs;
@@ -50,25 +52,50 @@ fn rows(rt: &impl Abort, alloc: Global, shop: &Shop) -> Result<String, Fail> {
     Ok(rows)
 }
 
+// The desk that a start gives.
+fn desk(
+    rt: &impl Abort,
+    alloc: Global,
+    keeper: Folder,
+    limit: u32,
+) -> Result<Shop, StartFault<Folder, SlipOf<Folder>>>
+    requires some { 1 ≤ limit }
+    requires few { limit ≤ 4 }
+    ensures idle { IfOk result (λ shop. IsIdle shop.plain) }
+{
+    let conf = conf(rt, alloc);
+    Desk::start(alloc, keeper, right(rt, alloc), &conf, limit)
+}
+
+// How many heads and bodies its keeper has.
+fn left(rt: &impl Abort, alloc: Global, shop: Shop) -> (usize, usize)
+    requires idle { IsIdle shop.plain }
+{
+    let mut keeper = shop.into_keeper();
+    counts(rt, alloc, &mut keeper)
+}
+
+fn refusal<P>(alloc: Global, cause: &StartCause<P>) -> Result<String, Fail> {
+    match cause {
+        StartCause::TooMany { count } => Ok(format!(in alloc; "too many {count}")?),
+        StartCause::KeeperFault(_) => Ok(format!(in alloc; "fault")?),
+        StartCause::NoMemory => Ok(format!(in alloc; "no memory")?),
+    }
+}
+
 // What a start answers: the rows, and then how many heads and bodies are left.
 fn start(rt: &impl Abort, alloc: Global, keeper: Folder, limit: u32) -> Result<String, Fail>
     requires some { 1 ≤ limit }
     requires few { limit ≤ 4 }
 {
-    let conf = conf(rt, alloc);
-    let started: Result<Shop, _> = Desk::start(alloc, keeper, right(rt, alloc), &conf, limit);
-    match started {
+    match desk(rt, alloc, keeper, limit) {
         Ok(shop) => {
-            let rows = rows(rt, alloc, &shop)?;
-            let mut keeper = shop.into_keeper();
-            let (heads, bodies) = counts(rt, alloc, &mut keeper);
+            let rows = rows(rt, alloc, &shop);
+            let (heads, bodies) = left(rt, alloc, shop);
+            let rows = rows?;
             Ok(format!(in alloc; "{rows} {heads} {bodies}")?)
         }
-        Err(fault) => match fault.cause {
-            StartCause::TooMany { count } => Ok(format!(in alloc; "too many {count}")?),
-            StartCause::KeeperFault(_) => Ok(format!(in alloc; "fault")?),
-            StartCause::NoMemory => Ok(format!(in alloc; "no memory")?),
-        },
+        Err(fault) => refusal(alloc, &fault.cause),
     }
 }
 
@@ -137,21 +164,24 @@ fn letter(rt: &impl Abort, alloc: Global, shop: &mut Shop, name: char) -> char {
     }
 }
 
+// The letters of two calls behind a start.
+fn letters(rt: &impl Abort, alloc: Global, keeper: Folder) -> (char, char) {
+    match desk(rt, alloc, keeper, 4) {
+        Ok(mut shop) => {
+            let first = letter(rt, alloc, &mut shop, 'b');
+            (first, letter(rt, alloc, &mut shop, 'a'))
+        }
+        Err(_) => panic!(rt; "the desk starts"),
+    }
+}
+
 #[test]
 fn after_the_last_attempt_what_is_held_is_served(rt: HostRuntime) -> Result<(), Fail> {
     let alloc = rt.alloc();
     let folder = no_folder(&rt)?;
     let mut keeper = opened(&rt, folder.as_str())?;
     fill(&rt, alloc, &mut keeper, "a:1:x:s:9223372036854775807");
-    let conf = conf(&rt, alloc);
-    let started: Result<Shop, _> = Desk::start(alloc, keeper, right(&rt, alloc), &conf, 4);
-    match started {
-        Ok(mut shop) => {
-            assert_eq!(rt; letter(&rt, alloc, &mut shop, 'b'), 'w');
-            assert_eq!(rt; letter(&rt, alloc, &mut shop, 'a'), 'k');
-        }
-        Err(_) => panic!(rt; "the desk starts"),
-    }
+    assert_eq!(rt; letters(&rt, alloc, keeper), ('w', 'k'));
     fs::remove_dir_all(&rt, folder.as_str())?;
     Ok(())
 }
