@@ -80,7 +80,33 @@ fn tally_again(tally: &Arc<Tally>) -> Result<Arc<Tally>, Unmade> {
     }
 }
 
-// Lets a crowd loose on what an origin answers in pieces of so many bytes.
+// The size of the whole body that a house holds.
+fn size_of(house: &House, path: &CachePath) -> Option<u64> {
+    match house.row(path) {
+        Some(row) => Some(row.size),
+        None => None,
+    }
+}
+
+// Lets a crowd loose on what an origin answers in pieces of so many bytes, and says what is held then.
+fn held_after<R: Threads + Wait + Abort + Sync>(
+    rt: &R,
+    alloc: Global,
+    rules: &[Rule],
+    cut: usize,
+    wanted: &Wanted,
+    tally: &Arc<Tally>,
+) -> Result<Option<u64>, Unmade> {
+    let gate = Patient {
+        tally: tally_again(tally)?,
+        crowd: CROWD - 1,
+    };
+    let (origin, right) = MemoryOrigin::start(alloc, rules, cut.max(1), gate)?;
+    let house = Mutex::new(housed(alloc, right)?);
+    drive(rt, alloc, &origin, &house, wanted, &**tally, CROWD);
+    Ok(size_of(&house.into_inner(), &wanted.path))
+}
+
 fn crowd<R: Threads + Wait + Abort + Sync>(
     rt: &R,
     alloc: Global,
@@ -91,18 +117,7 @@ fn crowd<R: Threads + Wait + Abort + Sync>(
     let Ok(tally) = Arc::new(alloc, Tally::new()) else {
         return Err(Unmade);
     };
-    let gate = Patient {
-        tally: tally_again(&tally)?,
-        crowd: CROWD - 1,
-    };
-    let (origin, right) = MemoryOrigin::start(alloc, rules, cut.max(1), gate)?;
-    let house = Mutex::new(housed(alloc, right)?);
-    drive(rt, alloc, &origin, &house, wanted, &*tally, CROWD);
-    let house = house.into_inner();
-    let held = match house.row(&wanted.path) {
-        Some(row) => Some(row.size),
-        None => None,
-    };
+    let held = held_after(rt, alloc, rules, cut, wanted, &tally)?;
     Ok(Outcome {
         leads: tally.leads.load(Ordering::SeqCst),
         served: tally.served.load(Ordering::SeqCst),

@@ -48,14 +48,18 @@ fn show(rt: &impl Print, alloc: Global, case: &Case) -> io::Result<()> {
         return Err(broken());
     };
     let mut shop = shop;
+    show_shop(rt, alloc, &mut shop, case)
+}
+
+fn show_shop(rt: &impl Print, alloc: Global, shop: &mut Shop, case: &Case) -> io::Result<()> {
     if case.slips.is_empty() {
-        show_reach(rt, alloc, &mut shop, case)?;
+        show_reach(rt, alloc, shop, case)?;
     }
     if case.found.is_empty() {
         return Ok(());
     }
-    show_import(rt, alloc, &mut shop, case)?;
-    show_held(rt, alloc, &shop)
+    show_import(rt, alloc, shop, case)?;
+    show_held(rt, alloc, shop)
 }
 
 fn show_reach(rt: &impl Print, alloc: Global, shop: &mut Shop, case: &Case) -> io::Result<()> {
