@@ -89,6 +89,21 @@ fn words_of(alloc: Global, words: &str) -> Result<Vec<Text>, NoMemory> {
     Ok(texts)
 }
 
+// The same at a moment, with an origin that answers by the rules.
+fn once_by(
+    alloc: Global,
+    words: &[Text],
+    cache: Cache,
+    around: Around<'_>,
+    conf: &mut MemorySource,
+    link: &mut MemoryLink,
+) -> Result<(u8, Cache), NoMemory> {
+    let mut clock = FixedClock::new(alloc, &[around.moment])?;
+    let cut = around.cut.max(1);
+    let (origin, right) = MemoryOrigin::<Untold, NoGate>::start(alloc, around.rules, cut, NoGate)?;
+    Ok(once(alloc, words, cache, right, conf, &origin, &mut clock, link))
+}
+
 /// One run by the words, which stand between blanks. The cache is given back as the run leaves it.
 pub fn run(
     alloc: Global,
@@ -99,20 +114,9 @@ pub fn run(
 ) -> Result<(Outcome, Cache), NoMemory> {
     let words = words_of(alloc, words)?;
     let cut = around.cut.max(1);
-    let (origin, right) = MemoryOrigin::<Untold, NoGate>::start(alloc, around.rules, cut, NoGate)?;
     let mut conf = MemorySource::new(alloc, around.conf.as_bytes(), cut, &[around.conf_fails])?;
-    let mut clock = FixedClock::new(alloc, &[around.moment])?;
     let mut link = MemoryLink::new(alloc, request, 4096, cut, &[around.link_fails])?;
-    let (status, cache) = once(
-        alloc,
-        words.as_slice(),
-        cache,
-        right,
-        &mut conf,
-        &origin,
-        &mut clock,
-        &mut link,
-    );
+    let (status, cache) = once_by(alloc, words.as_slice(), cache, around, &mut conf, &mut link)?;
     let written = Vec::from_slice(alloc, link.written())?;
     Ok((Outcome { status, written }, cache))
 }

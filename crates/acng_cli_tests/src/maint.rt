@@ -114,28 +114,42 @@ fn list(alloc: Global) -> Result<ListFile, NoMemory> {
 fn status_of(
     alloc: Global,
     words: &[Text],
-    cache: Cache,
     source: &mut MemorySource,
     lists: &[ListFile],
     finder: &mut MemoryFinder,
     sink: &mut MemorySink,
 ) -> Result<u8, NoMemory> {
-    let (_origin, right) = MemoryOrigin::<Untold, NoGate>::start(alloc, &[], 1, NoGate)?;
     let mut clock = FixedClock::new(alloc, &[1000])?;
-    Ok(
-        run_maint(
-            alloc,
-            words,
-            cache.keeper,
-            right,
-            source,
-            lists,
-            finder,
-            &mut clock,
-            sink,
-        )
-        .status,
-    )
+    let cache = Cache::new(alloc, &[])?;
+    let (_origin, right) = MemoryOrigin::<Untold, NoGate>::start(alloc, &[], 1, NoGate)?;
+    let maint = run_maint(
+        alloc,
+        words,
+        cache.keeper,
+        right,
+        source,
+        lists,
+        finder,
+        &mut clock,
+        sink,
+    );
+    Ok(maint.status)
+}
+
+// The same of a configuration, and what was printed.
+fn printed(
+    alloc: Global,
+    words: &[Text],
+    conf: &[u8],
+    lists: &[ListFile],
+    streams: Streams,
+) -> Result<(u8, Vec<u8>), NoMemory> {
+    let cut = streams.cut.max(1);
+    let mut source = MemorySource::new(alloc, conf, cut, &[streams.failing_read])?;
+    let mut finder = found(alloc, streams.failing_find)?;
+    let mut sink = MemorySink::new(alloc, streams.room, cut, &[streams.failing_write])?;
+    let status = status_of(alloc, words, &mut source, lists, &mut finder, &mut sink)?;
+    Ok((status, Vec::from_slice(alloc, sink.written())?))
 }
 
 // The status, and what was printed.
@@ -147,21 +161,7 @@ fn run(
 ) -> Result<(u8, Vec<u8>), NoMemory> {
     let words = texts(alloc, words)?;
     let lists = [list(alloc)?];
-    let cut = streams.cut.max(1);
-    let mut source = MemorySource::new(alloc, conf, cut, &[streams.failing_read])?;
-    let mut sink = MemorySink::new(alloc, streams.room, cut, &[streams.failing_write])?;
-    let mut finder = found(alloc, streams.failing_find)?;
-    let cache = Cache::new(alloc, &[])?;
-    let status = status_of(
-        alloc,
-        words.as_slice(),
-        cache,
-        &mut source,
-        &lists,
-        &mut finder,
-        &mut sink,
-    )?;
-    Ok((status, Vec::from_slice(alloc, sink.written())?))
+    printed(alloc, words.as_slice(), conf, &lists, streams)
 }
 
 // Words and a configuration, and the program's status and what is printed.
